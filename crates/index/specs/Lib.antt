@@ -1,0 +1,4 @@
+pub mod Directions
+pub mod Records
+pub mod Links
+pub mod Refusals
