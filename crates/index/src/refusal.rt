@@ -26,7 +26,7 @@ pub enum Refusal {
     WeakIndexesFull,
     // There is no room for another edge in the table, or the limit is reached.
     EdgesFull,
-    // The rack is not set up, or the stack table is shorter than needed.
+    // The stack table is shorter than needed, or no set-up came first; `needed` is then what set-up would need.
     StackShort { needed: usize },
     // The hold table or the hand-out table is shorter than needed.
     HoldShort { needed: usize },

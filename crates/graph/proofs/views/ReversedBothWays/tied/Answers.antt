@@ -1,0 +1,5 @@
+use Rattle.theory.proofs.Turning.{turned-tied}
+use Rattle.graph.proofs.views.ReversedBothWays.tied.Needs as need
+
+pub returns : need.returns
+returns g c = turned-tied (c .sound .ensures) (c .tied .ensures)
