@@ -158,7 +158,10 @@ pub impl<G: Graph, S: NodeSet<Ix = G::Ix>> Graph for NodeFiltered<G, S> as NodeF
     }
 }
 
-pub impl<G: BothWays, S: NodeSet<Ix = G::Ix>> BothWays for NodeFiltered<G, S> as NodeFilteredBothWays {
+pub impl<G: BothWays, S: NodeSet<Ix = G::Ix>> BothWays for NodeFiltered<
+    G,
+    S,
+> as NodeFilteredBothWays {
     ghost ins = { λ g n. kept-by (within (S·NodeSet .has (g .set))) (G·BothWays .ins (g .graph) n) };
 
     fn tied(&self) {

@@ -72,6 +72,7 @@ place-back p (x ∷ xs) ys h = here (eqb (x .packageEdge) p) (place p xs) h (λ 
     more : (o : Option ℕ) → mapped suc (mapped (λ j. length xs + j) o) ≡ mapped (λ j. suc (length xs) + j) o
     more None = refl
     more (Some j) = let q : suc (length xs + j) ≡ suc (length xs) + j = omega arith in ap Some q
+
     here : (b : Bool) (o : Option ℕ) → cond b (Some 0) (mapped suc o) ≡ None → (o ≡ None → place p (xs ++ ys) ≡ mapped (λ j. length xs + j) (place p ys)) → cond b (Some 0) (mapped suc (place p (xs ++ ys))) ≡ mapped (λ j. suc (length xs) + j) (place p ys)
     here true o q e = absurd (let z : _≡_ {A = ℕ} 0 1 = cc in omega arith)
     here false (Some j) q e = absurd (let z : _≡_ {A = ℕ} 0 1 = cc in omega arith)

@@ -78,8 +78,8 @@ module _ (count : ℕ) (edges heads nexts : List ℕ) (h : Hashed count edges he
 
 -- a pair is written at the end of the tables, and put at the front of its bucket's chain
 module _ (i : ℕ) (edges heads nexts : List ℕ) (h : Hashed i edges heads nexts) (p : ℕ)
-  (e : i < length edges) (n : i < length nexts) (b : p % 1024 < length heads)
-  (fresh : (j : ℕ) → j < i → getD edges j 0 ≡ p → ⊥) where
+    (e : i < length edges) (n : i < length nexts) (b : p % 1024 < length heads)
+    (fresh : (j : ℕ) → j < i → getD edges j 0 ≡ p → ⊥) where
   old-edge : (j : ℕ) → j < i → getD (set edges i p) j 0 ≡ getD edges j 0
   old-edge j less = let ne : j ≢ i = omega arith in getD-set-other edges i j p 0 ne
 
