@@ -42,7 +42,7 @@ paired d d′ p n r two a none h =
         ap (λ (x : State). x .nodes) same ∙ a .0,
         ap (λ (x : State). x .edges) same ∙ a .1,
         ap (λ (x : State). x .pairs) same ∙ new (d .pairs) (a .2),
-        ap (λ (x : State). length (x .words)) same ∙ a .3
+        ap (λ (x : State). length (x .words)) same ∙ a .3,
       ),
       ap edgesOf same ∙ none,
     )

@@ -53,14 +53,22 @@ pub fn four_nodes(table: &mut [u32; 32]) -> Answers
     let mut draft = Draft::new(table, FeatureGraphSpec);
     let _ = draft.set_up(4);
     let _ = draft.add_pair(7, FeatureIx::new(2));
-    let _ = draft.add_edge(FeatureIx::new(0), FeatureIx::new(1), FeatureEdge::NamedFeature);
+    let _ = draft.add_edge(
+        FeatureIx::new(0),
+        FeatureIx::new(1),
+        FeatureEdge::NamedFeature,
+    );
     let slash = FeatureEdge::WeakSlash {
         required: None,
         optional: 1,
         index: WeakIndex(0),
     };
     let _ = draft.add_edge(FeatureIx::new(1), FeatureIx::new(3), slash);
-    let _ = draft.add_edge(FeatureIx::new(0), FeatureIx::new(2), FeatureEdge::DependenciesSection(1));
+    let _ = draft.add_edge(
+        FeatureIx::new(0),
+        FeatureIx::new(2),
+        FeatureEdge::DependenciesSection(1),
+    );
     let graph = draft.finish();
     let cut = NodeFiltered {
         graph: &graph,

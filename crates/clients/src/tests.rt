@@ -46,8 +46,14 @@ fn the_last_node_is_accepted_and_the_next_is_none() -> Result<(), Fail> {
     let mut draft = Draft::new(&mut table, PackageGraphSpec);
     check_eq(outcome(draft.set_up(4097)), (1, 0))?;
     check_eq(outcome(draft.set_up(4096)), (0, 0))?;
-    check_eq(outcome(draft.add_edge(node(4095), node(4095), LINK)), (0, 0))?;
-    check_eq(outcome(draft.add_edge(node(4096), node(4096), LINK)), (4, 0))?;
+    check_eq(
+        outcome(draft.add_edge(node(4095), node(4095), LINK)),
+        (0, 0),
+    )?;
+    check_eq(
+        outcome(draft.add_edge(node(4096), node(4096), LINK)),
+        (4, 0),
+    )?;
     check_eq(outcome(draft.add_edge(node(0), node(4096), LINK)), (4, 1))?;
     check_eq(outcome(draft.add_pair(0, node(4096))), (4, 2))
 }
@@ -82,19 +88,28 @@ fn the_last_pair_is_accepted_and_the_next_refused() -> Result<(), Fail> {
     check_eq(outcome(draft.set_up(2)), (0, 0))?;
     let mut last = 0;
     for package_edge in 0..1024u32 {
-        let WeakIndex(index) = draft.add_pair(package_edge.wrapping_mul(1024), FeatureIx::new(1)).ok().ok_or("refused")?;
+        let WeakIndex(index) = draft
+            .add_pair(package_edge.wrapping_mul(1024), FeatureIx::new(1))
+            .ok()
+            .ok_or("refused")?;
         last = index;
     }
     check_eq(last, 1023)?;
     check_eq(outcome(draft.add_pair(5, FeatureIx::new(1))), (6, 0))?;
-    let WeakIndex(old) = draft.add_pair(1024, FeatureIx::new(0)).ok().ok_or("refused")?;
+    let WeakIndex(old) = draft
+        .add_pair(1024, FeatureIx::new(0))
+        .ok()
+        .ok_or("refused")?;
     check_eq(old, 1)?;
     let slash = FeatureEdge::WeakSlash {
         required: None,
         optional: 1,
         index: WeakIndex(1024),
     };
-    check_eq(outcome(draft.add_edge(FeatureIx::new(0), FeatureIx::new(1), slash)), (5, 0))?;
+    check_eq(
+        outcome(draft.add_edge(FeatureIx::new(0), FeatureIx::new(1), slash)),
+        (5, 0),
+    )?;
     let graph = draft.finish();
     check_eq(graph.release_node(WeakIndex(1)), Some(1))?;
     check_eq(graph.release_node(WeakIndex(1024)), None)
@@ -107,7 +122,10 @@ fn the_last_edge_is_accepted_and_the_next_refused() -> Result<(), Fail> {
     check_eq(outcome(draft.set_up(1)), (0, 0))?;
     let mut last = 0;
     for _ in 0..16_384 {
-        last = draft.add_edge(node(0), node(0), LINK).ok().ok_or("refused")?;
+        last = draft
+            .add_edge(node(0), node(0), LINK)
+            .ok()
+            .ok_or("refused")?;
     }
     check_eq(last, 16_383)?;
     check_eq(outcome(draft.add_edge(node(0), node(0), LINK)), (7, 0))?;

@@ -103,11 +103,11 @@ pub impl<'a, S: GraphSpec> Graph for FinishedGraph<'a, S> as FinishedForward {
     fn sound(&self) {}
 
     fn node_bound(&self) -> u32 {
-        self.nodes
+        self.nodes // every index below is a node
     }
 
     fn edge_bound(&self) -> u32 {
-        self.edges
+        self.edges // every number below is an edge's
     }
 
     fn has_node(&self, n: S::Ix) -> bool {

@@ -62,7 +62,7 @@ pub impl<G: BothWays> Graph for Reversed<G> as ReversedGraph {
 
     fn sound(&self) {
         self.0.sound();
-        self.0.tied();
+        self.0.tied(); // the incoming lists are the ones walked
     }
 
     fn node_bound(&self) -> u32 {
@@ -93,7 +93,7 @@ pub impl<G: BothWays> BothWays for Reversed<G> as ReversedBothWays {
     ghost ins = { λ g n. map turn (G·Graph .outs (g .0) n) };
 
     fn tied(&self) {
-        self.0.sound();
+        self.0.sound(); // each edge stands in its source's list
         self.0.tied();
     }
 
@@ -128,7 +128,7 @@ pub impl<G: Graph, S: NodeSet<Ix = G::Ix>> Graph for NodeFiltered<G, S> as NodeF
     ghost rest = { λ g c. kept-by (within (S·NodeSet .has (g .set))) (G·Graph .rest (g .graph) c) };
 
     fn sound(&self) {
-        self.graph.sound();
+        self.graph.sound(); // and a part of it keeps to the same
     }
 
     fn node_bound(&self) -> u32 {
@@ -165,7 +165,6 @@ pub impl<G: BothWays, S: NodeSet<Ix = G::Ix>> BothWays for NodeFiltered<
     ghost ins = { λ g n. kept-by (within (S·NodeSet .has (g .set))) (G·BothWays .ins (g .graph) n) };
 
     fn tied(&self) {
-        self.graph.sound();
         self.graph.tied();
     }
 

@@ -82,7 +82,7 @@ pub impl EdgeRecord for PackageLink as PackageLinkRecord {
     }
 
     fn weak_index(self) -> Option<WeakIndex> {
-        None
+        None // a package edge is never weak
     }
 }
 

@@ -44,7 +44,8 @@ pub impl IndexType for PackageIx as PackageIxIndex {
     }
 
     fn index(self) -> u32 {
-        self.0
+        let PackageIx(number) = self;
+        number
     }
 }
 
@@ -56,7 +57,8 @@ pub impl IndexType for FeatureIx as FeatureIxIndex {
     }
 
     fn index(self) -> u32 {
-        self.0
+        let FeatureIx(number) = self;
+        number
     }
 }
 

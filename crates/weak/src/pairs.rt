@@ -29,7 +29,7 @@ impl WeakDependencies {
     pub fn len(&self) -> u32
         ensures { λ r. ⌜ r ≡ length (pairs (now (self .entry))) ⌝ }
     {
-        self.count
+        self.count // an index a pair
     }
 
     // The node that releases a weak index, if it is registered.

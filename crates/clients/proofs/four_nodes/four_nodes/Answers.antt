@@ -32,13 +32,13 @@ returns c =
     let f = c .finish-graph .result in
     let k = c .finish-graph .ensures in
     let all : laid readFeatureEdge (f .words .now) (f .nodes) (f .edges) ≡ edge 0 2 2 (DependenciesSection 1) ∷ edge 1 3 1 slash ∷ edge 0 1 0 NamedFeature ∷ [] =
-        ap (λ ws. laid readFeatureEdge ws (f .nodes) (f .edges)) (k .words)
-        ∙ ap (λ n. laid readFeatureEdge (d5 .raw .words .now) n (f .edges)) (k .nodes)
-        ∙ ap (laid readFeatureEdge (d5 .raw .words .now) (d5 .raw .nodes)) (k .edges) ∙ z .1 in
+    ap (λ ws. laid readFeatureEdge ws (f .nodes) (f .edges)) (k .words)
+    ∙ ap (λ n. laid readFeatureEdge (d5 .raw .words .now) n (f .edges)) (k .nodes)
+    ∙ ap (laid readFeatureEdge (d5 .raw .words .now) (d5 .raw .nodes)) (k .edges) ∙ z .1 in
     let out : c .first-two .result ≡ (Some 2, Some 0) =
-        c .first-two .ensures ∙ ap (λ n. firstTwo (kept-by (leaves n) (laid readFeatureEdge (f .words .now) (f .nodes) (f .edges)))) (c .new-8 .ensures) ∙ ap (λ es. firstTwo (kept-by (leaves 0) es)) all in
+    c .first-two .ensures ∙ ap (λ n. firstTwo (kept-by (leaves n) (laid readFeatureEdge (f .words .now) (f .nodes) (f .edges)))) (c .new-8 .ensures) ∙ ap (λ es. firstTwo (kept-by (leaves 0) es)) all in
     let back : c .first-two-2 .result ≡ (Some 1, None) =
-        c .first-two-2 .ensures ∙ ap (λ n. firstTwo (map turn (kept-by (enters n) (laid readFeatureEdge (f .words .now) (f .nodes) (f .edges))))) (c .new-9 .ensures) ∙ ap (λ es. firstTwo (map turn (kept-by (enters 3) es))) all in
+    c .first-two-2 .ensures ∙ ap (λ n. firstTwo (map turn (kept-by (enters n) (laid readFeatureEdge (f .words .now) (f .nodes) (f .edges))))) (c .new-9 .ensures) ∙ ap (λ es. firstTwo (map turn (kept-by (enters 3) es))) all in
     let cut : c .first-two-3 .result ≡ (Some 0, None) =
-        c .first-two-3 .ensures ∙ ap (λ n. firstTwo (kept-by (within (others 2)) (kept-by (leaves n) (laid readFeatureEdge (f .words .now) (f .nodes) (f .edges))))) (c .new-10 .ensures) ∙ ap (λ es. firstTwo (kept-by (within (others 2)) (kept-by (leaves 0) es))) all in
+    c .first-two-3 .ensures ∙ ap (λ n. firstTwo (kept-by (within (others 2)) (kept-by (leaves n) (laid readFeatureEdge (f .words .now) (f .nodes) (f .edges))))) (c .new-10 .ensures) ∙ ap (λ es. firstTwo (kept-by (within (others 2)) (kept-by (leaves 0) es))) all in
     cc
