@@ -1,3 +1,4 @@
 pub mod Wording
 pub mod Laying
 pub mod Lines
+pub mod Naming

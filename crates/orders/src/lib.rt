@@ -4,4 +4,5 @@
 pub mod laying;
 pub mod lines;
 pub mod listing;
+pub mod naming;
 pub mod wording;

@@ -11,15 +11,19 @@ use Rattle.records.specs.declared.values.Form.{Form}
 use Rattle.records.specs.declared.values.Form.the-variants.{Named, Base, Section, Colon, Strong, Weak, WeakAt}
 use Rattle.records.specs.Words.{andThen, named, bytesOf, past, wordAt, numberAt, maskAt, dashOrMaskAt}
 
+-- section M
 abbrev pub sectionAt : List ℕ → ℕ → Result Form Complaint
 sectionAt text at = andThen (maskAt text at) (λ m. Ok (Section m))
 
+-- colon M
 abbrev pub colonAt : List ℕ → ℕ → Result Form Complaint
 colonAt text at = andThen (maskAt text at) (λ m. Ok (Colon m))
 
+-- strong M
 abbrev pub strongAt : List ℕ → ℕ → Result Form Complaint
 strongAt text at = andThen (maskAt text at) (λ m. Ok (Strong m))
 
+-- weak REQ OPT REL PE
 abbrev pub weakAt : List ℕ → ℕ → Result Form Complaint
 weakAt text at =
     andThen (dashOrMaskAt text at) (λ required.
@@ -28,6 +32,7 @@ weakAt text at =
     andThen (numberAt text (past 3 text at)) (λ edge.
     Ok (Weak required optional release edge)))))
 
+-- weakat REQ OPT INDEX
 abbrev pub weakPlaceAt : List ℕ → ℕ → Result Form Complaint
 weakPlaceAt text at =
     andThen (dashOrMaskAt text at) (λ required.
@@ -47,5 +52,6 @@ formNamed text at w =
     (codes "weak", weakAt text at) ∷
     (codes "weakat", weakPlaceAt text at) ∷ [])
 
+-- the form whose name is the next word
 abbrev pub formAt : List ℕ → ℕ → Result Form Complaint
 formAt text at = andThen (wordAt text at) (λ w. formNamed text (past 1 text at) w)

@@ -1,3 +1,5 @@
+pub mod Drafts
 pub mod Forms
+pub mod Queries
 pub mod Reading
 pub mod Words

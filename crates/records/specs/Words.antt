@@ -27,9 +27,11 @@ abbrev pub named : {A : Type 0} → List ℕ → A → List (List ℕ × A) → 
 named name other [] = other
 named name other (row ∷ rows) = cond (sameBytes name (row .0)) (row .1) (named name other rows)
 
+-- the bytes of a part of a text
 abbrev pub bytesOf : List ℕ → Span → List ℕ
 bytesOf text w = between (w .start) (w .end) text
 
+-- where a word ends that was found, or else the place before
 abbrev pub endOr : ℕ → Option Span → ℕ
 endOr at None = at
 endOr at (Some w) = w .end
@@ -47,9 +49,11 @@ past (suc n) text at = after text (past n text at)
 abbrev pub wordAt : List ℕ → ℕ → Result Span Complaint
 wordAt text at = okOr (wordFrom text at) WordMissing
 
+-- the number that the word w writes
 abbrev pub numberIn : List ℕ → Span → Result ℕ Complaint
 numberIn text w = okOr (numberOf (bytesOf text w)) (NoNumber w)
 
+-- the mask that it writes, a number of at most 255
 abbrev pub maskIn : List ℕ → Span → Result ℕ Complaint
 maskIn text w = andThen (numberIn text w) (λ n. cond (leb n 255) (Ok n) (Err MaskAbove255))
 

@@ -1,7 +1,6 @@
 // The words of a record, one after the other.
 // A word is read as it stands, as a number or as a mask; each reading takes one word.
 ghost use mathlib.Core.Path.{_≡_};
-ghost use Prim.Native.Nat.{ℕ};
 ghost use Rattle.std.specs.shelf.Text.{sameBytes};
 ghost use Rattle.records.specs.Words.{after, bytesOf, dashOrMaskAt, maskAt, maskIn, numberAt, numberIn, wordAt};
 use crate::values::Complaint;
@@ -17,6 +16,7 @@ pub struct Words<'a> {
 }
 
 impl Words<'_> {
+    // The next word.
     pub fn word(&mut self) -> Result<Span, Complaint>
         ensures value { λ r. ⌜ r ≡ wordAt (now (now (self .entry) .text)) (now (self .entry) .at) ⌝ }
         ensures text { λ r. ⌜ now (now (self .exit) .text) ≡ now (now (self .entry) .text) ⌝ }
@@ -31,6 +31,7 @@ impl Words<'_> {
         }
     }
 
+    // The next word as a number.
     pub fn number(&mut self) -> Result<u32, Complaint>
         ensures value { λ r. ⌜ r ≡ numberAt (now (now (self .entry) .text)) (now (self .entry) .at) ⌝ }
         ensures text { λ r. ⌜ now (now (self .exit) .text) ≡ now (now (self .entry) .text) ⌝ }
@@ -40,6 +41,7 @@ impl Words<'_> {
         number_in(self.text, word)
     }
 
+    // The next word as a mask.
     pub fn mask(&mut self) -> Result<u8, Complaint>
         ensures value { λ r. ⌜ r ≡ maskAt (now (now (self .entry) .text)) (now (self .entry) .at) ⌝ }
         ensures text { λ r. ⌜ now (now (self .exit) .text) ≡ now (now (self .entry) .text) ⌝ }
@@ -49,7 +51,7 @@ impl Words<'_> {
         mask_in(self.text, word)
     }
 
-    // A mask, or `-` for none.
+    // The next word as a mask, where `-` is none.
     pub fn dash_or_mask(&mut self) -> Result<Option<u8>, Complaint>
         ensures value { λ r. ⌜ r ≡ dashOrMaskAt (now (now (self .entry) .text)) (now (self .entry) .at) ⌝ }
         ensures text { λ r. ⌜ now (now (self .exit) .text) ≡ now (now (self .entry) .text) ⌝ }
@@ -71,6 +73,7 @@ impl Words<'_> {
     }
 }
 
+// The number that a word writes.
 fn number_in(text: &[u8], word: Span) -> Result<u32, Complaint>
     ensures { λ r. ⌜ r ≡ numberIn (now (text .entry)) word ⌝ }
 {
@@ -80,6 +83,7 @@ fn number_in(text: &[u8], word: Span) -> Result<u32, Complaint>
     }
 }
 
+// A number of at most 255.
 fn mask_in(text: &[u8], word: Span) -> Result<u8, Complaint>
     ensures { λ r. ⌜ r ≡ maskIn (now (text .entry)) word ⌝ }
 {

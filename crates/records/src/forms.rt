@@ -1,13 +1,13 @@
 // The form of an edge in a feature graph.
 // A name says which form it is, and after the name stand its masks and then its numbers.
 ghost use mathlib.Core.Path.{_≡_};
-ghost use Prim.Native.Nat.{ℕ};
 ghost use Rattle.records.specs.Forms.{colonAt, formAt, formNamed, sectionAt, strongAt, weakAt, weakPlaceAt};
 use crate::cursor::Words;
 use crate::values::Complaint;
 use crate::values::Form;
 use words::Span;
 
+// The form whose name is the next word.
 pub fn read_form(mut words: Words<'_>) -> Result<Form, Complaint>
     ensures { λ r. ⌜ r ≡ formAt (now (words .entry .text)) (words .entry .at) ⌝ }
 {
@@ -15,6 +15,7 @@ pub fn read_form(mut words: Words<'_>) -> Result<Form, Complaint>
     form_named(words, word)
 }
 
+// The form that a word names, with the words that follow it.
 fn form_named(words: Words<'_>, word: Span) -> Result<Form, Complaint>
     ensures { λ r. ⌜ r ≡ formNamed (now (words .entry .text)) (words .entry .at) word ⌝ }
 {
@@ -37,6 +38,7 @@ fn form_named(words: Words<'_>, word: Span) -> Result<Form, Complaint>
     }
 }
 
+// `section M`.
 fn read_section(mut words: Words<'_>) -> Result<Form, Complaint>
     ensures { λ r. ⌜ r ≡ sectionAt (now (words .entry .text)) (words .entry .at) ⌝ }
 {
@@ -44,6 +46,7 @@ fn read_section(mut words: Words<'_>) -> Result<Form, Complaint>
     Ok(Form::Section(mask))
 }
 
+// `colon M`.
 fn read_colon(mut words: Words<'_>) -> Result<Form, Complaint>
     ensures { λ r. ⌜ r ≡ colonAt (now (words .entry .text)) (words .entry .at) ⌝ }
 {
@@ -51,6 +54,7 @@ fn read_colon(mut words: Words<'_>) -> Result<Form, Complaint>
     Ok(Form::Colon(mask))
 }
 
+// `strong M`.
 fn read_strong(mut words: Words<'_>) -> Result<Form, Complaint>
     ensures { λ r. ⌜ r ≡ strongAt (now (words .entry .text)) (words .entry .at) ⌝ }
 {
@@ -58,6 +62,7 @@ fn read_strong(mut words: Words<'_>) -> Result<Form, Complaint>
     Ok(Form::Strong(mask))
 }
 
+// `weak REQ OPT REL PE`.
 fn read_weak(mut words: Words<'_>) -> Result<Form, Complaint>
     ensures { λ r. ⌜ r ≡ weakAt (now (words .entry .text)) (words .entry .at) ⌝ }
 {
@@ -73,6 +78,7 @@ fn read_weak(mut words: Words<'_>) -> Result<Form, Complaint>
     })
 }
 
+// `weakat REQ OPT INDEX`.
 fn read_weak_at(mut words: Words<'_>) -> Result<Form, Complaint>
     ensures { λ r. ⌜ r ≡ weakPlaceAt (now (words .entry .text)) (words .entry .at) ⌝ }
 {

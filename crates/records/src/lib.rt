@@ -1,7 +1,9 @@
 // Reads the lines of an order file into plain values.
 // A line is read by itself, with what stands when it comes; no memory is asked for.
 mod cursor;
+mod drafts;
 mod forms;
+mod queries;
 mod reading;
 mod values;
 

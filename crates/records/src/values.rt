@@ -2,6 +2,7 @@
 // These are plain values: they hold numbers and places, and no text.
 use words::Span;
 
+// The kind of a graph.
 #[derive(Clone, Copy)]
 pub enum Kind {
     Feature,
@@ -29,6 +30,7 @@ pub enum Form {
     },
 }
 
+// What a line says.
 #[derive(Clone, Copy)]
 pub enum Record {
     // The record without the blanks around it.

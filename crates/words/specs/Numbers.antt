@@ -13,5 +13,6 @@ use Rattle.std.specs.declared.option.Option.the-variants.{Some, None}
 abbrev pub isNumber : List ℕ → Bool
 isNumber word = ltb 0 (length (afterPlus word)) && (allDigits (afterPlus word) && ltb (value 10 (afterPlus word)) (2 ^ 32))
 
+-- that number, if the word writes one
 abbrev pub numberOf : List ℕ → Option ℕ
 numberOf word = cond (isNumber word) (Some (value 10 (afterPlus word))) None

@@ -25,6 +25,7 @@ pub record First (test : ℕ → Bool) (bs : List ℕ) (from at : ℕ) : Type 0 
 abbrev pub blank : ℕ → Bool
 blank b = (leb 9 b && leb b 13) || eqb b 32
 
+-- a line ends at the byte 10
 abbrev pub lineEnd : List ℕ → ℕ → ℕ
 lineEnd text from = firstAt (λ b. eqb b 10) text from
 
@@ -59,6 +60,7 @@ pub record IsWord (text : List ℕ) (from : ℕ) (w : Span) : Type 0 where
   pub inside : (k : ℕ) → k < w .end → w .start ≤ k → blank (getD text k 0) ≡ false
   pub ends : w .end < length text → blank (getD text (w .end) 0) ≡ true
 
+-- and where no word is found: only blanks
 abbrev pub NoWord : List ℕ → ℕ → Type 0
 NoWord text from = (k : ℕ) → k < length text → from ≤ k → blank (getD text k 0) ≡ true
 

@@ -10,3 +10,5 @@ pub use places::next_word;
 pub use places::record_text;
 pub use places::trimmed;
 pub use spans::Span;
+pub use spans::SpanDebug;
+pub use spans::SpanPartialEq;

@@ -7,6 +7,7 @@ ghost use Rattle.std.specs.Options.{Cases};
 ghost use Rattle.words.specs.Places.{First, IsWord, NoWord, blank, firstAt, lineEnd, recordText, trim, trimEnd, wordStart, wordEnd, wordFrom};
 use crate::spans::Span;
 
+// Whether the byte parts words.
 fn is_blank(byte: u8) -> bool
     ensures { λ r. ⌜ r ≡ blank byte ⌝ }
 {
