@@ -43,11 +43,7 @@ const TABLE_WORDS: usize = 2 * 4096 + 8 * 16_384;
 enum Next {
     End,
     Nothing,
-    Graph {
-        kind: Kind,
-        nodes: u32,
-        line: usize,
-    },
+    Graph { kind: Kind, nodes: u32, line: usize },
 }
 
 // What a line asks for, once what every standing does alike is done.
@@ -88,7 +84,12 @@ impl Page {
 }
 
 // Reads the next line and does what is done in every standing.
-fn read_line(rt: &LibcRuntime, lines: &mut Lines<'_>, standing: Standing, page: &mut Page) -> Result<Step, AnyError> {
+fn read_line(
+    rt: &LibcRuntime,
+    lines: &mut Lines<'_>,
+    standing: Standing,
+    page: &mut Page,
+) -> Result<Step, AnyError> {
     let Some(line) = lines.next() else {
         return Ok(Step::Leave(Next::End));
     };
@@ -123,7 +124,11 @@ fn after_complaint(line: Line<'_>) -> Step {
     }
 }
 
-fn nothing_stands(rt: &LibcRuntime, lines: &mut Lines<'_>, page: &mut Page) -> Result<Next, AnyError> {
+fn nothing_stands(
+    rt: &LibcRuntime,
+    lines: &mut Lines<'_>,
+    page: &mut Page,
+) -> Result<Next, AnyError> {
     for _ in 0..u64::MAX {
         if let Step::Leave(next) = read_line(rt, lines, Standing::Nothing, page)? {
             return Ok(next);
@@ -133,14 +138,26 @@ fn nothing_stands(rt: &LibcRuntime, lines: &mut Lines<'_>, page: &mut Page) -> R
 }
 
 // Begins a draft; where its nodes are refused it has none.
-fn begin<S: GraphSpec>(rt: &LibcRuntime, draft: &mut Draft<'_, S>, nodes: u32, line: usize, page: &mut Page) -> Result<(), AnyError> {
+fn begin<S: GraphSpec>(
+    rt: &LibcRuntime,
+    draft: &mut Draft<'_, S>,
+    nodes: u32,
+    line: usize,
+    page: &mut Page,
+) -> Result<(), AnyError> {
     if let Err(refusal) = draft.set_up(nodes) {
         page.refuse(rt, refusal, line)?;
     }
     Ok(())
 }
 
-fn perform_feature(rt: &LibcRuntime, draft: &mut Draft<'_, FeatureGraphSpec>, record: Record, line: usize, page: &mut Page) -> Result<bool, AnyError> {
+fn perform_feature(
+    rt: &LibcRuntime,
+    draft: &mut Draft<'_, FeatureGraphSpec>,
+    record: Record,
+    line: usize,
+    page: &mut Page,
+) -> Result<bool, AnyError> {
     match record {
         Record::Pair {
             release,
@@ -167,7 +184,14 @@ fn perform_feature(rt: &LibcRuntime, draft: &mut Draft<'_, FeatureGraphSpec>, re
     Ok(false)
 }
 
-fn feature_graph(rt: &LibcRuntime, lines: &mut Lines<'_>, table: &mut [u32], nodes: u32, line: usize, page: &mut Page) -> Result<Next, AnyError> {
+fn feature_graph(
+    rt: &LibcRuntime,
+    lines: &mut Lines<'_>,
+    table: &mut [u32],
+    nodes: u32,
+    line: usize,
+    page: &mut Page,
+) -> Result<Next, AnyError> {
     let mut draft = Draft::new(table, FeatureGraphSpec);
     begin(rt, &mut draft, nodes, line, page)?;
     for _ in 0..u64::MAX {
@@ -184,14 +208,28 @@ fn feature_graph(rt: &LibcRuntime, lines: &mut Lines<'_>, table: &mut [u32], nod
     queries(rt, lines, &draft.finish(), page)
 }
 
-fn package_graph(rt: &LibcRuntime, lines: &mut Lines<'_>, table: &mut [u32], nodes: u32, line: usize, page: &mut Page) -> Result<Next, AnyError> {
+fn package_graph(
+    rt: &LibcRuntime,
+    lines: &mut Lines<'_>,
+    table: &mut [u32],
+    nodes: u32,
+    line: usize,
+    page: &mut Page,
+) -> Result<Next, AnyError> {
     let mut draft = Draft::new(table, PackageGraphSpec);
     begin(rt, &mut draft, nodes, line, page)?;
     for _ in 0..u64::MAX {
         match read_line(rt, lines, Standing::PackageDraft, page)? {
             Step::Done => {}
             Step::Leave(next) => return Ok(next),
-            Step::Perform(Record::PackageEdge { source, target, mask }, at) => {
+            Step::Perform(
+                Record::PackageEdge {
+                    source,
+                    target,
+                    mask,
+                },
+                at,
+            ) => {
                 if let Err(refusal) = lay_package_edge(&mut draft, source, target, mask) {
                     page.refuse(rt, refusal, at)?;
                 }
@@ -203,7 +241,12 @@ fn package_graph(rt: &LibcRuntime, lines: &mut Lines<'_>, table: &mut [u32], nod
     queries(rt, lines, &draft.finish(), page)
 }
 
-fn queries<S: GraphSpec>(rt: &LibcRuntime, lines: &mut Lines<'_>, graph: &FinishedGraph<'_, S>, page: &mut Page) -> Result<Next, AnyError> {
+fn queries<S: GraphSpec>(
+    rt: &LibcRuntime,
+    lines: &mut Lines<'_>,
+    graph: &FinishedGraph<'_, S>,
+    page: &mut Page,
+) -> Result<Next, AnyError> {
     for _ in 0..u64::MAX {
         match read_line(rt, lines, Standing::Finished, page)? {
             Step::Done => {}
@@ -214,11 +257,22 @@ fn queries<S: GraphSpec>(rt: &LibcRuntime, lines: &mut Lines<'_>, graph: &Finish
     Ok(Next::End)
 }
 
-fn answer<S: GraphSpec>(rt: &LibcRuntime, graph: &FinishedGraph<'_, S>, record: Record, page: &mut Page) -> Result<(), AnyError> {
+fn answer<S: GraphSpec>(
+    rt: &LibcRuntime,
+    graph: &FinishedGraph<'_, S>,
+    record: Record,
+    page: &mut Page,
+) -> Result<(), AnyError> {
     match record {
         Record::Out(node) => write_out(&mut page.bytes, page.heap, graph, node)?,
         Record::Into(node) => write_into(&mut page.bytes, page.heap, graph, node)?,
-        Record::Size => write_size(&mut page.bytes, page.heap, graph.node_bound(), graph.edge_bound(), graph.weak_count())?,
+        Record::Size => write_size(
+            &mut page.bytes,
+            page.heap,
+            graph.node_bound(),
+            graph.edge_bound(),
+            graph.weak_count(),
+        )?,
         _ => return Ok(()),
     }
     page.end_line(rt)

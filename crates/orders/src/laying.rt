@@ -22,14 +22,27 @@ use index::spec::PackageIxIndex;
 use index::spec::PackageSpec;
 use records::Form;
 
-fn lay(draft: &mut Draft<'_, FeatureGraphSpec>, source: u32, target: u32, weight: FeatureEdge) -> Result<u32, Refusal>
+fn lay(
+    draft: &mut Draft<'_, FeatureGraphSpec>,
+    source: u32,
+    target: u32,
+    weight: FeatureEdge,
+) -> Result<u32, Refusal>
     ensures { λ r. ⌜ LaysWith weight (stateOf (now (draft .entry) .raw) (now (draft .entry) .weak)) source target r (stateOf (now (draft .exit) .raw) (now (draft .exit) .weak)) ⌝ }
 {
     draft.add_edge(FeatureIx::new(source), FeatureIx::new(target), weight)
 }
 
 // Registers a pair, and then adds the edge that waits for it.
-fn lay_weak(draft: &mut Draft<'_, FeatureGraphSpec>, source: u32, target: u32, required: Option<u8>, optional: u8, release: u32, package_edge: u32) -> Result<u32, Refusal>
+fn lay_weak(
+    draft: &mut Draft<'_, FeatureGraphSpec>,
+    source: u32,
+    target: u32,
+    required: Option<u8>,
+    optional: u8,
+    release: u32,
+    package_edge: u32,
+) -> Result<u32, Refusal>
     ensures { λ r. ⌜ Pairs required optional «package_edge» release (stateOf (now (draft .entry) .raw) (now (draft .entry) .weak)) source target r (stateOf (now (draft .exit) .raw) (now (draft .exit) .weak)) ⌝ }
 {
     match draft.add_pair(package_edge, FeatureIx::new(release)) {
@@ -48,21 +61,44 @@ fn lay_weak(draft: &mut Draft<'_, FeatureGraphSpec>, source: u32, target: u32, r
 }
 
 // Adds an edge of a feature graph, and answers its number.
-pub fn lay_feature_edge(draft: &mut Draft<'_, FeatureGraphSpec>, source: u32, target: u32, form: Form) -> Result<u32, Refusal>
+pub fn lay_feature_edge(
+    draft: &mut Draft<'_, FeatureGraphSpec>,
+    source: u32,
+    target: u32,
+    form: Form,
+) -> Result<u32, Refusal>
     ensures { λ r. ⌜ Lays form (stateOf (now (draft .entry) .raw) (now (draft .entry) .weak)) source target r (stateOf (now (draft .exit) .raw) (now (draft .exit) .weak)) ⌝ }
 {
     match form {
         Form::Named => lay(draft, source, target, FeatureEdge::NamedFeature),
         Form::Base => lay(draft, source, target, FeatureEdge::FeatureToBase),
-        Form::Section(mask) => lay(draft, source, target, FeatureEdge::DependenciesSection(mask)),
-        Form::Colon(mask) => lay(draft, source, target, FeatureEdge::NamedFeatureDepColon(mask)),
+        Form::Section(mask) => lay(
+            draft,
+            source,
+            target,
+            FeatureEdge::DependenciesSection(mask),
+        ),
+        Form::Colon(mask) => lay(
+            draft,
+            source,
+            target,
+            FeatureEdge::NamedFeatureDepColon(mask),
+        ),
         Form::Strong(mask) => lay(draft, source, target, FeatureEdge::StrongSlash(mask)),
         Form::Weak {
             required,
             optional,
             release,
             package_edge,
-        } => lay_weak(draft, source, target, required, optional, release, package_edge),
+        } => lay_weak(
+            draft,
+            source,
+            target,
+            required,
+            optional,
+            release,
+            package_edge,
+        ),
         Form::WeakAt {
             required,
             optional,
@@ -81,8 +117,17 @@ pub fn lay_feature_edge(draft: &mut Draft<'_, FeatureGraphSpec>, source: u32, ta
 }
 
 // Adds an edge of a package graph, and answers its number.
-pub fn lay_package_edge(draft: &mut Draft<'_, PackageGraphSpec>, source: u32, target: u32, mask: u8) -> Result<u32, Refusal>
+pub fn lay_package_edge(
+    draft: &mut Draft<'_, PackageGraphSpec>,
+    source: u32,
+    target: u32,
+    mask: u8,
+) -> Result<u32, Refusal>
     ensures { λ r. ⌜ TakesEdge readPackageLink None (stateOf (now (draft .entry) .raw) (now (draft .entry) .weak)) source target (record { mask = mask }) r (stateOf (now (draft .exit) .raw) (now (draft .exit) .weak)) ⌝ }
 {
-    draft.add_edge(PackageIx::new(source), PackageIx::new(target), PackageLink { mask })
+    draft.add_edge(
+        PackageIx::new(source),
+        PackageIx::new(target),
+        PackageLink { mask },
+    )
 }

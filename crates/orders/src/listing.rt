@@ -11,14 +11,26 @@ use index::spec::IndexType;
 use std::alloc::AllocError;
 use std::alloc::Global;
 
-fn write_edge(out: &mut Vec<u8>, heap: Global, source: u32, target: u32, number: u32) -> Result<(), AllocError>
+fn write_edge(
+    out: &mut Vec<u8>,
+    heap: Global,
+    source: u32,
+    target: u32,
+    number: u32,
+) -> Result<(), AllocError>
     ensures { λ r. ⌜ Writes r (vec-items (now (out .entry))) (edgeText source target number) (vec-items (now (out .exit))) ⌝ }
 {
     let text = format!(heap, " {source}>{target}#{number}")?;
     out.extend_from_slice(text.as_bytes())
 }
 
-fn write_head(out: &mut Vec<u8>, heap: Global, name: &str, node: u32, count: usize) -> Result<(), AllocError>
+fn write_head(
+    out: &mut Vec<u8>,
+    heap: Global,
+    name: &str,
+    node: u32,
+    count: usize,
+) -> Result<(), AllocError>
     ensures { λ r. ⌜ Writes r (vec-items (now (out .entry))) (headText (now (name .entry)) node count) (vec-items (now (out .exit))) ⌝ }
 {
     let text = format!(heap, "{name} {node} {count}")?;
@@ -26,12 +38,23 @@ fn write_head(out: &mut Vec<u8>, heap: Global, name: &str, node: u32, count: usi
 }
 
 // The edges that a cursor has still to give.
-fn write_edges<G: Graph>(out: &mut Vec<u8>, heap: Global, graph: &G, start: G::Cursor) -> Result<(), AllocError>
+fn write_edges<G: Graph>(
+    out: &mut Vec<u8>,
+    heap: Global,
+    graph: &G,
+    start: G::Cursor,
+) -> Result<(), AllocError>
     ensures { λ r. ⌜ Writes r (vec-items (now (out .entry))) (edgesText (rest (now (graph .entry)) start)) (vec-items (now (out .exit))) ⌝ }
 {
     let mut c = start;
     while let Some(edge) = graph.next(&mut c) {
-        write_edge(out, heap, edge.source.index(), edge.target.index(), edge.number)?;
+        write_edge(
+            out,
+            heap,
+            edge.source.index(),
+            edge.target.index(),
+            edge.number,
+        )?;
     }
     Ok(())
 }
@@ -49,7 +72,14 @@ fn count<G: Graph>(graph: &G, start: G::Cursor) -> usize
     k
 }
 
-fn write_list<G: Graph>(out: &mut Vec<u8>, heap: Global, name: &str, node: u32, graph: &G, start: G::Cursor) -> Result<(), AllocError>
+fn write_list<G: Graph>(
+    out: &mut Vec<u8>,
+    heap: Global,
+    name: &str,
+    node: u32,
+    graph: &G,
+    start: G::Cursor,
+) -> Result<(), AllocError>
     requires { ⌜ length (rest (now graph) start) < 2 ^ 64 ⌝ }
     ensures { λ r. ⌜ Writes r (vec-items (now (out .entry))) (listText (now (name .entry)) node (rest (now (graph .entry)) start)) (vec-items (now (out .exit))) ⌝ }
 {
@@ -59,7 +89,12 @@ fn write_list<G: Graph>(out: &mut Vec<u8>, heap: Global, name: &str, node: u32, 
 }
 
 // The edges that leave a node; none leave an index that is no node.
-pub fn write_out<G: Graph>(out: &mut Vec<u8>, heap: Global, graph: &G, node: u32) -> Result<(), AllocError>
+pub fn write_out<G: Graph>(
+    out: &mut Vec<u8>,
+    heap: Global,
+    graph: &G,
+    node: u32,
+) -> Result<(), AllocError>
     ensures { λ r. ⌜ Writes r (vec-items (now (out .entry))) (listText (codes "out") node (outs (now (graph .entry)) node)) (vec-items (now (out .exit))) ⌝ }
 {
     graph.sound();
@@ -68,7 +103,12 @@ pub fn write_out<G: Graph>(out: &mut Vec<u8>, heap: Global, graph: &G, node: u32
 }
 
 // The edges that enter a node.
-pub fn write_into<G: BothWays>(out: &mut Vec<u8>, heap: Global, graph: &G, node: u32) -> Result<(), AllocError>
+pub fn write_into<G: BothWays>(
+    out: &mut Vec<u8>,
+    heap: Global,
+    graph: &G,
+    node: u32,
+) -> Result<(), AllocError>
     ensures { λ r. ⌜ Writes r (vec-items (now (out .entry))) (listText (codes "into") node (ins (now (graph .entry)) node)) (vec-items (now (out .exit))) ⌝ }
 {
     graph.sound();

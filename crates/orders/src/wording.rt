@@ -18,7 +18,12 @@ fn layer_name(layer: Layer) -> &'static str
 }
 
 // A refusal, with the number of the line that was refused.
-pub fn write_refusal(out: &mut Vec<u8>, heap: Global, told: Told, line: usize) -> Result<(), AllocError>
+pub fn write_refusal(
+    out: &mut Vec<u8>,
+    heap: Global,
+    told: Told,
+    line: usize,
+) -> Result<(), AllocError>
     ensures { λ r. ⌜ Writes r (vec-items (now (out .entry))) (refusalText told line) (vec-items (now (out .exit))) ⌝ }
 {
     let number = told.number;
@@ -64,7 +69,12 @@ fn wrong_word<'a>(complaint: Complaint, line: &'a [u8]) -> &'a [u8]
     }
 }
 
-fn write_why(out: &mut Vec<u8>, heap: Global, complaint: Complaint, number: usize) -> Result<(), AllocError>
+fn write_why(
+    out: &mut Vec<u8>,
+    heap: Global,
+    complaint: Complaint,
+    number: usize,
+) -> Result<(), AllocError>
     ensures { λ r. ⌜ Writes r (vec-items (now (out .entry))) (badText complaint number) (vec-items (now (out .exit))) ⌝ }
 {
     let why = why(complaint);
@@ -73,7 +83,13 @@ fn write_why(out: &mut Vec<u8>, heap: Global, complaint: Complaint, number: usiz
 }
 
 // What is wrong with a line, with the line's number and the word that is wrong as it stands.
-pub fn write_complaint(out: &mut Vec<u8>, heap: Global, complaint: Complaint, line: &[u8], number: usize) -> Result<(), AllocError>
+pub fn write_complaint(
+    out: &mut Vec<u8>,
+    heap: Global,
+    complaint: Complaint,
+    line: &[u8],
+    number: usize,
+) -> Result<(), AllocError>
     ensures { λ r. ⌜ Writes r (vec-items (now (out .entry))) (complaintText complaint (now (line .entry)) number) (vec-items (now (out .exit))) ⌝ }
 {
     write_why(out, heap, complaint, number)?;
@@ -89,7 +105,13 @@ pub fn write_pair(out: &mut Vec<u8>, heap: Global, index: u32) -> Result<(), All
 }
 
 // How many nodes, edges and weak indexes a graph has.
-pub fn write_size(out: &mut Vec<u8>, heap: Global, nodes: u32, edges: u32, weak: u32) -> Result<(), AllocError>
+pub fn write_size(
+    out: &mut Vec<u8>,
+    heap: Global,
+    nodes: u32,
+    edges: u32,
+    weak: u32,
+) -> Result<(), AllocError>
     ensures { λ r. ⌜ Writes r (vec-items (now (out .entry))) (sizeText nodes edges weak) (vec-items (now (out .exit))) ⌝ }
 {
     let text = format!(heap, "size {nodes} {edges} {weak}")?;

@@ -10,14 +10,14 @@ use words::number;
 
 // The text of a record, and the place from which the next word is looked for.
 #[derive(Clone, Copy)]
-pub struct Words<'a> {
+pub(crate) struct Words<'a> {
     pub text: &'a [u8],
     pub at: usize,
 }
 
 impl Words<'_> {
     // The next word.
-    pub fn word(&mut self) -> Result<Span, Complaint>
+    pub(crate) fn word(&mut self) -> Result<Span, Complaint>
         ensures value { λ r. ⌜ r ≡ wordAt (now (now (self .entry) .text)) (now (self .entry) .at) ⌝ }
         ensures text { λ r. ⌜ now (now (self .exit) .text) ≡ now (now (self .entry) .text) ⌝ }
         ensures at { λ r. ⌜ now (self .exit) .at ≡ after (now (now (self .entry) .text)) (now (self .entry) .at) ⌝ }
@@ -32,7 +32,7 @@ impl Words<'_> {
     }
 
     // The next word as a number.
-    pub fn number(&mut self) -> Result<u32, Complaint>
+    pub(crate) fn number(&mut self) -> Result<u32, Complaint>
         ensures value { λ r. ⌜ r ≡ numberAt (now (now (self .entry) .text)) (now (self .entry) .at) ⌝ }
         ensures text { λ r. ⌜ now (now (self .exit) .text) ≡ now (now (self .entry) .text) ⌝ }
         ensures at { λ r. ⌜ now (self .exit) .at ≡ after (now (now (self .entry) .text)) (now (self .entry) .at) ⌝ }
@@ -42,7 +42,7 @@ impl Words<'_> {
     }
 
     // The next word as a mask.
-    pub fn mask(&mut self) -> Result<u8, Complaint>
+    pub(crate) fn mask(&mut self) -> Result<u8, Complaint>
         ensures value { λ r. ⌜ r ≡ maskAt (now (now (self .entry) .text)) (now (self .entry) .at) ⌝ }
         ensures text { λ r. ⌜ now (now (self .exit) .text) ≡ now (now (self .entry) .text) ⌝ }
         ensures at { λ r. ⌜ now (self .exit) .at ≡ after (now (now (self .entry) .text)) (now (self .entry) .at) ⌝ }
@@ -52,7 +52,7 @@ impl Words<'_> {
     }
 
     // The next word as a mask, where `-` is none.
-    pub fn dash_or_mask(&mut self) -> Result<Option<u8>, Complaint>
+    pub(crate) fn dash_or_mask(&mut self) -> Result<Option<u8>, Complaint>
         ensures value { λ r. ⌜ r ≡ dashOrMaskAt (now (now (self .entry) .text)) (now (self .entry) .at) ⌝ }
         ensures text { λ r. ⌜ now (now (self .exit) .text) ≡ now (now (self .entry) .text) ⌝ }
         ensures at { λ r. ⌜ now (self .exit) .at ≡ after (now (now (self .entry) .text)) (now (self .entry) .at) ⌝ }
@@ -66,7 +66,7 @@ impl Words<'_> {
     }
 
     // Whether a word has this name.
-    pub fn is(&self, word: Span, name: &[u8]) -> bool
+    pub(crate) fn is(&self, word: Span, name: &[u8]) -> bool
         ensures { λ r. ⌜ r ≡ sameBytes (bytesOf (now (now (self .entry) .text)) word) (now (name .entry)) ⌝ }
     {
         word.of(self.text) == name

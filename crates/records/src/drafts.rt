@@ -11,7 +11,7 @@ use crate::values::Standing;
 use words::Span;
 
 // `graph KIND N`: N is read before the kind is judged.
-pub fn read_graph(mut words: Words<'_>) -> Result<Record, Complaint>
+pub(crate) fn read_graph(mut words: Words<'_>) -> Result<Record, Complaint>
     ensures { λ r. ⌜ r ≡ graphAt (now (words .entry .text)) (words .entry .at) ⌝ }
 {
     let word = words.word()?;
@@ -34,7 +34,7 @@ fn kind_named(words: Words<'_>, word: Span) -> Result<Kind, Complaint>
 }
 
 // `pair REL PE`.
-pub fn read_pair(mut words: Words<'_>, standing: Standing) -> Result<Record, Complaint>
+pub(crate) fn read_pair(mut words: Words<'_>, standing: Standing) -> Result<Record, Complaint>
     ensures { λ r. ⌜ r ≡ pairAt standing (now (words .entry .text)) (words .entry .at) ⌝ }
 {
     let Standing::FeatureDraft = standing else {
@@ -49,7 +49,7 @@ pub fn read_pair(mut words: Words<'_>, standing: Standing) -> Result<Record, Com
 }
 
 // `edge S T ..`: what follows depends on the kind of the graph.
-pub fn read_edge(mut words: Words<'_>, standing: Standing) -> Result<Record, Complaint>
+pub(crate) fn read_edge(mut words: Words<'_>, standing: Standing) -> Result<Record, Complaint>
     ensures { λ r. ⌜ r ≡ edgeAt standing (now (words .entry .text)) (words .entry .at) ⌝ }
 {
     let kind = draft(standing)?;
@@ -87,7 +87,7 @@ fn draft(standing: Standing) -> Result<Kind, Complaint>
 }
 
 // `setup`, which ends a draft.
-pub fn read_set_up(standing: Standing) -> Result<Record, Complaint>
+pub(crate) fn read_set_up(standing: Standing) -> Result<Record, Complaint>
     ensures { λ r. ⌜ r ≡ setUpIn standing ⌝ }
 {
     match standing {

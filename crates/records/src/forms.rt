@@ -8,7 +8,7 @@ use crate::values::Form;
 use words::Span;
 
 // The form whose name is the next word.
-pub fn read_form(mut words: Words<'_>) -> Result<Form, Complaint>
+pub(crate) fn read_form(mut words: Words<'_>) -> Result<Form, Complaint>
     ensures { λ r. ⌜ r ≡ formAt (now (words .entry .text)) (words .entry .at) ⌝ }
 {
     let word = words.word()?;

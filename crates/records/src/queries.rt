@@ -10,7 +10,7 @@ use words::Span;
 use words::next_word;
 
 // `out N`.
-pub fn read_out(mut words: Words<'_>, standing: Standing) -> Result<Record, Complaint>
+pub(crate) fn read_out(mut words: Words<'_>, standing: Standing) -> Result<Record, Complaint>
     ensures { λ r. ⌜ r ≡ outAt standing (now (words .entry .text)) (words .entry .at) ⌝ }
 {
     set_up(standing)?;
@@ -19,7 +19,7 @@ pub fn read_out(mut words: Words<'_>, standing: Standing) -> Result<Record, Comp
 }
 
 // `into N`.
-pub fn read_into(mut words: Words<'_>, standing: Standing) -> Result<Record, Complaint>
+pub(crate) fn read_into(mut words: Words<'_>, standing: Standing) -> Result<Record, Complaint>
     ensures { λ r. ⌜ r ≡ intoAt standing (now (words .entry .text)) (words .entry .at) ⌝ }
 {
     set_up(standing)?;
@@ -28,7 +28,7 @@ pub fn read_into(mut words: Words<'_>, standing: Standing) -> Result<Record, Com
 }
 
 // `size`.
-pub fn read_size(words: Words<'_>, standing: Standing) -> Result<Record, Complaint>
+pub(crate) fn read_size(words: Words<'_>, standing: Standing) -> Result<Record, Complaint>
     ensures { λ r. ⌜ r ≡ sizeAt standing (now (words .entry .text)) (words .entry .at) ⌝ }
 {
     set_up(standing)?;
@@ -36,7 +36,7 @@ pub fn read_size(words: Words<'_>, standing: Standing) -> Result<Record, Complai
 }
 
 // A word that names no record.
-pub fn read_unknown(word: Span, standing: Standing) -> Result<Record, Complaint>
+pub(crate) fn read_unknown(word: Span, standing: Standing) -> Result<Record, Complaint>
     ensures { λ r. ⌜ r ≡ unknownIn standing word ⌝ }
 {
     set_up(standing)?;

@@ -11,6 +11,9 @@ use crate::table::WeakDependencies;
 use index::records::WeakIndex;
 use index::refusal::Refusal;
 
+// How many pairs there may be, each table's length.
+const LIMIT: u32 = 1024;
+
 impl WeakDependencies {
     // No pair yet.
     pub fn new() -> WeakDependencies
@@ -66,7 +69,7 @@ impl WeakDependencies {
             return Ok(index);
         }
         let i = self.count;
-        if i >= 1024 {
+        if i >= LIMIT {
             return Err(Refusal::WeakIndexesFull);
         }
         let bucket = (package_edge % 1024) as usize;
