@@ -111,8 +111,9 @@ fn the_last_pair_is_accepted_and_the_next_refused() -> Result<(), Fail> {
         (5, 0),
     )?;
     let graph = draft.finish();
-    check_eq(graph.release_node(WeakIndex(1)), Some(1))?;
-    check_eq(graph.release_node(WeakIndex(1024)), None)
+    let releases = graph.release_node(WeakIndex(1)).ok_or("not registered")?;
+    check_eq(releases.index(), 1)?;
+    check(graph.release_node(WeakIndex(1024)).is_none())
 }
 
 #[test]

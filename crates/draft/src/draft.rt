@@ -60,7 +60,7 @@ impl<'a, S: GraphSpec> Draft<'a, S> {
         Ok(())
     }
 
-    // Registers a weak pair: an unknown package edge gets the next weak index, a known one has its own already.
+    // Registers a weak pair and answers its weak index: a new one where the package edge is new, else the one it has.
     pub fn add_pair(&mut self, package_edge: u32, release: S::Ix) -> Result<WeakIndex, Refusal>
         ensures { λ r. ⌜ TakesPair (stateOf (now (self .entry) .raw) (now (self .entry) .weak)) (record { packageEdge = «package_edge»; release = Ix·IndexType .number release }) r (stateOf (now (self .exit) .raw) (now (self .exit) .weak)) ⌝ }
     {

@@ -75,11 +75,14 @@ impl<'a, S: GraphSpec> FinishedGraph<'a, S> {
         self.weak.len()
     }
 
-    // The number of the node that releases a weak index, if it is registered.
-    pub fn release_node(&self, index: WeakIndex) -> Option<u32>
-        ensures { λ r. ⌜ r ≡ mapped (λ p. p .release) (nth (pairsOf (now (self .entry) .weak)) (index .0)) ⌝ }
+    // The node that releases a weak index, if it is registered.
+    pub fn release_node(&self, index: WeakIndex) -> Option<S::Ix>
+        ensures { λ r. ⌜ mapped (Ix·IndexType .number) r ≡ mapped (λ p. p .release) (nth (pairsOf (now (self .entry) .weak)) (index .0)) ⌝ }
     {
-        self.weak.release_node(index)
+        match self.weak.release_node(index) {
+            Some(node) => Some(S::Ix::new(node)),
+            None => None,
+        }
     }
 }
 
