@@ -12,7 +12,7 @@ use native.Mathlib.Nat.{ℕ-set}
 use std.HLevel.{Π-prop}
 use lib.Dec.{eqb, leb}
 use Rattle.std.specs.declared.option.Option.the-variants.{Some}
-use Rattle.std.proofs.shelf.Tests.{cond-both, cond-true, cond-false, eqb-true, ne-eqb, eq-eqb, cases-lt, le-leb, lt-leb}
+use Rattle.std.proofs.shelf.Tests.{cond-both, cond-true, cond-false, eqb-true, ne-eqb, eq-eqb, cases-lt, le-leb}
 use Rattle.theory.specs.Edges.{Edge, In, Once}
 use Rattle.theory.specs.Graphs.{Steps}
 use Rattle.theory.specs.Chains.{newest, keyed, Last, from}
@@ -127,13 +127,6 @@ module _ {X : Type 0} (key : X → ℕ) (at : ℕ → X) where
       let start : from key at count a ≡ at (a - 1) ∷ keyed key at (a - 1) (key (at (a - 1))) = ap (from key at count) q ∙ from-suc count (a - 1) m in
       let end : from key at count h ≡ keyed key at (a - 1) (key (at (a - 1))) = from-last count (a - 1) (key (at (a - 1))) h (omega arith) l in
       subst (λ xs. Steps xs (Some (at (a - 1))) (from key at count h)) (sym start) (refl, end)
-
-  -- no link, and a link past the items, give nothing
-  pub link-end : (count : ℕ) → from key at count 0 ≡ []
-  link-end count = cond-true (leb 0 count) (keyed key at 0 (key (at (0 - 1)))) [] (le-leb 0 count (omega arith))
-
-  pub link-past : (count a : ℕ) → count < a → from key at count a ≡ []
-  link-past count a b = cond-false (leb a count) (keyed key at a (key (at (a - 1)))) [] (lt-leb a count b)
 
 -- numbered edges are listed once
 pub once-keyed : {W : Type 0} (key : Edge W → ℕ) (at : ℕ → Edge W) → ((j : ℕ) → at j .number ≡ j) → (k n : ℕ) → Once (keyed key at k n)

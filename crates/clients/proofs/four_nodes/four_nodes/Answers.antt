@@ -1,3 +1,4 @@
+-- From call to call the draft has the edges of the four-node graph, and its lists are read off them.
 use mathlib.Core.Path.{_≡_, refl, sym, ap, _∙_}
 use mathlib.Core.List.{List, [], _∷_, map}
 use native.Mathlib.Omega.{arith}

@@ -1,3 +1,4 @@
+-- What is counted and what is left make the whole list.
 use mathlib.Core.Path.{_≡_}
 use Prim.Native.Nat.{_+_}
 use lib.ListN.{length}

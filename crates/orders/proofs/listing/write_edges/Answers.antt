@@ -1,3 +1,4 @@
+-- An edge written and the text of those left make the text of those that were left before.
 use mathlib.Core.Path.{_≡_, sym, ap, _∙_}
 use mathlib.Core.List.{_∷_, _++_, append-assoc}
 use Rattle.std.specs.Of.Vec.{vec-items}

@@ -1,3 +1,4 @@
+-- An incoming list is short: its edges have different numbers below the limit.
 use mathlib.Core.Path.{_≡_, ap, _∙_}
 use Prim.Native.Nat.{_<_}
 use native.Mathlib.Omega.{arith}

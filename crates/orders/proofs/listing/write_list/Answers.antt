@@ -1,3 +1,4 @@
+-- The head of the line and then its edges make the line.
 use mathlib.Core.Path.{ap, _∙_}
 use mathlib.Core.List.{_++_}
 use Rattle.std.specs.Of.Vec.{vec-items}

@@ -1,3 +1,4 @@
+-- Two texts are equal where the comparison says so.
 use Rattle.std.proofs.shelf.Equals.{matches-decides, sameBytes-decides}
 use Rattle.std.proofs.shelf.Ways.{same-from-decides}
 use Rattle.orders.proofs.naming.same.Needs as need

@@ -1,3 +1,4 @@
+-- Each complaint has its text.
 use mathlib.Core.Path.{sym, ap}
 use Rattle.orders.specs.Wording.{whyText}
 use Rattle.orders.proofs.wording.why.Needs as need

@@ -1,3 +1,4 @@
+-- What is wrong, and then the word, make the line.
 use Rattle.std.specs.Of.Vec.{vec-items}
 use mathlib.Core.Path.{ap, _∙_}
 use mathlib.Core.Bool.{cond}

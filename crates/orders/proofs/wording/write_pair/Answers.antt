@@ -1,3 +1,4 @@
+-- The text that was made is the one that was added.
 use mathlib.Core.Path.{_≡_, refl, sym, ap, _∙_}
 use mathlib.Core.List.{_++_, append-assoc}
 use lib.Chars.{codes}

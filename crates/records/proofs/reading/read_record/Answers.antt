@@ -1,3 +1,4 @@
+-- A line says what its record's text says.
 use borrow.Author.Needs.{needs}
 use Rattle.records.specs.Reading.{recordOf}
 use Rattle.records.proofs.reading.read_record.Needs as need

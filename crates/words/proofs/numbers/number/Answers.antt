@@ -1,3 +1,4 @@
+-- What the library's reader of numbers promises is the definition of a number.
 use borrow.Author.Needs.{needs}
 use Rattle.words.proofs.Numerals.{parsed, no-text}
 use Rattle.words.proofs.numbers.number.Needs as need

@@ -1,3 +1,4 @@
+-- The places passed do not have the byte, and the last place has it or is the end.
 use lib.Dec.{eqb}
 use Rattle.std.proofs.shelf.Tests.{ne-eqb, eq-eqb}
 use Rattle.words.proofs.Runs.{seek-none, seek-more, seek-here, seek-end}

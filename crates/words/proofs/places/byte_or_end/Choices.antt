@@ -1,3 +1,4 @@
+-- The places passed do not have the byte.
 use Prim.Native.Nat.{_-_}
 use lib.ListN.{length}
 use lib.Dec.{eqb}

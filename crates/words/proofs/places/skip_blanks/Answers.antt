@@ -1,3 +1,4 @@
+-- The places passed have blanks, and the last place has none or is the end.
 use mathlib.Core.Path.{sym}
 use mathlib.Core.Bool.{not}
 use Rattle.words.specs.Places.{blank}

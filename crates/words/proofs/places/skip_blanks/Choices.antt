@@ -1,3 +1,4 @@
+-- The places passed have blanks.
 use Prim.Native.Nat.{_-_}
 use lib.ListN.{length}
 use mathlib.Core.Bool.{not}

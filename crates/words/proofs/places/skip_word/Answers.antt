@@ -1,3 +1,4 @@
+-- The places passed have no blank, and the last place has one or is the end.
 use mathlib.Core.Path.{sym}
 use Rattle.words.specs.Places.{blank}
 use Rattle.words.proofs.Runs.{seek-none, seek-more, seek-here, seek-end}

@@ -1,3 +1,4 @@
+-- The places passed have no blank.
 use Prim.Native.Nat.{_-_}
 use lib.ListN.{length}
 use Rattle.words.specs.Places.{blank}

@@ -1,3 +1,4 @@
+-- The places passed are the blanks that the text ends with.
 use mathlib.Core.Path.{sym}
 use native.Mathlib.Omega.{arith}
 use Rattle.words.proofs.Trimming.{trim-none, trim-more, trim-here, trim-all}

@@ -1,3 +1,4 @@
+-- The places passed, from the end back, have blanks.
 use Rattle.words.proofs.Trimming.{Trimming}
 use Rattle.words.proofs.places.trimmed_end.Given as given
 

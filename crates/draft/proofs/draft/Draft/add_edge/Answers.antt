@@ -1,3 +1,4 @@
+-- The table keeps its chains, and its edges are those before with the new one first.
 use mathlib.Core.Path.{_≡_, refl, sym, ap, subst, _∙_}
 use mathlib.Core.Bool.{false}
 use Prim.Native.Nat.{_+_}

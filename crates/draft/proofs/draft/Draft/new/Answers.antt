@@ -1,3 +1,4 @@
+-- A table without nodes keeps the invariant.
 use native.Mathlib.Omega.{arith}
 use Rattle.draft.proofs.Laying.{clear-chains}
 use Rattle.draft.proofs.draft.Draft.new.Needs as need

@@ -1,3 +1,4 @@
+-- A table whose heads are cleared keeps the invariant.
 use mathlib.Core.Path.{_≡_, sym, subst}
 use native.Mathlib.Omega.{arith}
 use Rattle.draft.specs.Table.{Chains}

@@ -1,3 +1,4 @@
+-- Both kinds of list are filters of one list of edges.
 use Rattle.draft.proofs.Laying.{whole}
 use Rattle.draft.proofs.Reading.{table-tied}
 use Rattle.draft.proofs.finished.FinishedBothWays.tied.Needs as need

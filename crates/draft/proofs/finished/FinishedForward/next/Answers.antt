@@ -1,3 +1,4 @@
+-- A link gives its edge, and the edge's own link the rest of the list.
 use mathlib.Core.Path.{_≡_, ap, _∙_}
 use Prim.Native.Nat.{_-_, _<_, _≤_}
 use native.Mathlib.Omega.{arith}

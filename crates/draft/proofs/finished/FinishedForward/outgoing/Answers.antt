@@ -1,3 +1,4 @@
+-- The head of a node's first chain stands for its outgoing list; an index that is no node has none.
 use mathlib.Core.Path.{ap, _∙_}
 use native.Mathlib.Omega.{arith}
 use Rattle.std.specs.shelf.Lists.{kept-by}

@@ -1,3 +1,4 @@
+-- The edges of a table with chains are those of a graph.
 use Rattle.draft.proofs.Laying.{whole}
 use Rattle.draft.proofs.Reading.{table-sound}
 use Rattle.draft.proofs.finished.FinishedForward.sound.Needs as need

@@ -1,3 +1,4 @@
+-- One more word is 0, and the table is as long as it was.
 use mathlib.Core.Path.{_≡_, _∙_}
 use mathlib.Core.Logic.{_≢_}
 use Prim.Native.Nat.{_<_}

@@ -1,3 +1,4 @@
+-- The words before the place reached are 0.
 use Prim.Native.Nat.{ℕ, _<_}
 use mathlib.Core.Path.{_≡_}
 use lib.ListN.{getD, length}

@@ -1,3 +1,4 @@
+-- Both kinds of list lose the same edges.
 use Rattle.theory.proofs.Turning.{filtered-tied}
 use Rattle.graph.proofs.views.NodeFilteredBothWays.tied.Needs as need
 

@@ -1,3 +1,4 @@
+-- A part of a graph keeps to what the graph keeps to.
 use Rattle.theory.proofs.Turning.{filtered-sound}
 use Rattle.graph.proofs.views.NodeFilteredGraph.sound.Needs as need
 

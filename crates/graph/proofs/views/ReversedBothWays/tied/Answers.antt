@@ -1,3 +1,4 @@
+-- The lists of a graph turned round are tied as those of the graph are.
 use Rattle.theory.proofs.Turning.{turned-tied}
 use Rattle.graph.proofs.views.ReversedBothWays.tied.Needs as need
 

@@ -1,3 +1,4 @@
+-- The incoming lists of a graph, turned round, are the outgoing lists of a graph.
 use Rattle.theory.proofs.Turning.{turned-sound}
 use Rattle.graph.proofs.views.ReversedGraph.sound.Needs as need
 

@@ -1,3 +1,4 @@
+-- Two texts are equal where the comparison says so.
 use mathlib.Core.Path.{ap, _∙_}
 use Rattle.std.proofs.shelf.Equals.{matches-decides, sameBytes-decides}
 use Rattle.std.proofs.shelf.Ways.{same-from-decides}

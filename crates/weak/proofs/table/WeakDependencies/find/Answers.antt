@@ -1,3 +1,4 @@
+-- The chain of a bucket has the pair that is looked for, or no pair has it.
 use mathlib.Core.Path.{_≡_, sym, ap, subst}
 use Prim.Native.Nat.{_-_, _<_, _≤_}
 use native.Mathlib.Omega.{arith}

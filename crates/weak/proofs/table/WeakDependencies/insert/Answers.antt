@@ -1,3 +1,4 @@
+-- A new pair comes last, and the tables keep their chains.
 use mathlib.Core.Path.{_≡_, sym, ap, _∙_}
 use Prim.Native.Nat.{_%_, _<_}
 use native.Mathlib.Omega.{arith}

@@ -1,3 +1,4 @@
+-- The list of pairs is as long as the count says.
 use mathlib.Core.Path.{sym}
 use Rattle.theory.proofs.Placing.{length-listed}
 use Rattle.weak.specs.Registered.{pairAt}

@@ -1,3 +1,4 @@
+-- Tables of zeros keep the invariant.
 use mathlib.Core.Path.{refl}
 use native.Mathlib.Omega.{arith}
 use lib.ListN.{replicate}

@@ -1,3 +1,4 @@
+-- A pair stands in the list at its index.
 use mathlib.Core.Path.{_≡_, sym, ap}
 use native.Mathlib.Omega.{arith}
 use Prim.Native.Nat.{_≤_}

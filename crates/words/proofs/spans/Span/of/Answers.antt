@@ -1,3 +1,4 @@
+-- A part cut off at the end of the line is the part as far as the line has it.
 use native.Mathlib.Omega.{arith}
 use borrow.Author.Needs.{needs}
 use Rattle.std.proofs.shelf.Lists.{same-lists, places}
