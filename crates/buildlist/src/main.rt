@@ -6,6 +6,8 @@ use draft::finished::FinishedBothWays;
 use draft::finished::FinishedForward;
 use draft::finished::FinishedGraph;
 use graph::graph::Graph;
+use index::limits::EDGE_LIMIT;
+use index::limits::NODE_LIMIT;
 use index::refusal::Refusal;
 use index::spec::FeatureGraphSpec;
 use index::spec::FeatureIx;
@@ -36,7 +38,7 @@ use std::io::Read;
 use std::io::Write;
 
 // Two words a node and eight an edge, for as many as a graph may have.
-const TABLE_WORDS: usize = 2 * 4096 + 8 * 16_384;
+const TABLE_WORDS: usize = 2 * NODE_LIMIT as usize + 8 * EDGE_LIMIT as usize;
 
 // What the file goes on with.
 #[derive(Clone, Copy)]

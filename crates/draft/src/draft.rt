@@ -7,6 +7,8 @@ ghost use Rattle.weak.specs.Registered.{pairs as pairsOf};
 ghost use Rattle.draft.specs.Table.{Room, Chains};
 ghost use Rattle.draft.specs.Drafting.{stateOf, SetsUp, TakesPair, TakesEdge};
 use crate::raw::Raw;
+use index::limits::EDGE_LIMIT;
+use index::limits::NODE_LIMIT;
 use index::records::EdgeRecord;
 use index::records::WeakIndex;
 use index::refusal::Layer;
@@ -49,7 +51,7 @@ impl<'a, S: GraphSpec> Draft<'a, S> {
     pub fn set_up(&mut self, nodes: u32) -> Result<(), Refusal>
         ensures { λ r. ⌜ SetsUp (stateOf (now (self .entry) .raw) (now (self .entry) .weak)) nodes r (stateOf (now (self .exit) .raw) (now (self .exit) .weak)) ⌝ }
     {
-        if nodes > 4096 {
+        if nodes > NODE_LIMIT {
             return Err(Refusal::TooManyNodes);
         }
         if self.raw.words.len() < 2 * nodes as usize {
@@ -102,7 +104,7 @@ impl<'a, S: GraphSpec> Draft<'a, S> {
         }
         let e = self.raw.edges;
         let room = (self.raw.words.len() - 2 * nodes as usize) / 8;
-        if e >= 16384 || e as usize >= room {
+        if e >= EDGE_LIMIT || e as usize >= room {
             return Err(Refusal::EdgesFull);
         }
         self.raw

@@ -8,11 +8,9 @@ ghost use Rattle.std.specs.shelf.Maps.{nth};
 ghost use Rattle.theory.specs.Pairs.{place};
 ghost use Rattle.weak.specs.Registered.{pairs, register, registered, weakIndex};
 use crate::table::WeakDependencies;
+use index::limits::WEAK_LIMIT;
 use index::records::WeakIndex;
 use index::refusal::Refusal;
-
-// How many pairs there may be, each table's length.
-const LIMIT: u32 = 1024;
 
 impl WeakDependencies {
     // No pair yet.
@@ -69,7 +67,7 @@ impl WeakDependencies {
             return Ok(index);
         }
         let i = self.count;
-        if i >= LIMIT {
+        if i >= WEAK_LIMIT {
             return Err(Refusal::WeakIndexesFull);
         }
         let bucket = (package_edge % 1024) as usize;

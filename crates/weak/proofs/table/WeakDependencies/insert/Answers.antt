@@ -11,8 +11,8 @@ use Rattle.weak.proofs.Hashing.{whole, hashed-more, pairs-more}
 use Rattle.weak.proofs.Registering.{not-placed, register-full, registered-full, register-new, registered-new}
 use Rattle.weak.proofs.table.WeakDependencies.insert.Needs as need
 
-pub returns-then-i-ge-LIMIT : need.returns-then-i-ge-LIMIT
-returns-then-i-ge-LIMIT c =
+pub returns-then-i-ge-WEAK-LIMIT : need.returns-then-i-ge-WEAK-LIMIT
+returns-then-i-ge-WEAK-LIMIT c =
     let w = c .args .self .now in
     let pair : Pair = record { packageEdge = c .args .package-edge; release = c .args .release } in
     let n = length-listed (pairAt (w .«package_edges») (w .«release_nodes»)) (w .count) in
