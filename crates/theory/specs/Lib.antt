@@ -3,3 +3,14 @@ pub mod Edges
 pub mod Graphs
 pub mod Chains
 pub mod Pairs
+pub mod Rules
+pub mod Least
+pub mod Walk
+pub mod Sample
+pub mod Reach
+pub mod PostOrder
+pub mod AllPass
+pub mod Components
+pub mod Listings
+pub mod Example
+pub mod Cases

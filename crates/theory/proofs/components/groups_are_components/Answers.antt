@@ -1,0 +1,5 @@
+use Rattle.theory.proofs.Grounds.{components-of-graph}
+use Rattle.theory.proofs.components.groups_are_components.Needs as need
+
+pub returns : need.returns
+returns g c = components-of-graph _

@@ -1,0 +1,5 @@
+use Rattle.theory.proofs.Rooms.{stacks-fit}
+use Rattle.theory.proofs.components.stacks_fit.Needs as need
+
+pub returns : need.returns
+returns g c = stacks-fit _

@@ -1,0 +1,5 @@
+use Rattle.theory.proofs.Asking.{in-turn-fair}
+use Rattle.theory.proofs.least.in_turn_is_fair.Needs as need
+
+pub returns : need.returns
+returns g c = in-turn-fair

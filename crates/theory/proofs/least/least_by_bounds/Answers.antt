@@ -1,0 +1,5 @@
+use Rattle.theory.proofs.Leasts.{least-by-bounds}
+use Rattle.theory.proofs.least.least_by_bounds.Needs as need
+
+pub returns : need.returns
+returns g c = least-by-bounds

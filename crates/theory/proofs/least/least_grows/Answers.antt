@@ -1,0 +1,5 @@
+use Rattle.theory.proofs.Leasts.{least-grows}
+use Rattle.theory.proofs.least.least_grows.Needs as need
+
+pub returns : need.returns
+returns g c = least-grows

@@ -1,0 +1,5 @@
+use Rattle.theory.proofs.Ending.{run-ends}
+use Rattle.theory.proofs.least.run_ends.Needs as need
+
+pub returns : need.returns
+returns g c = run-ends

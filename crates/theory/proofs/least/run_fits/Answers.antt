@@ -1,0 +1,5 @@
+use Rattle.theory.proofs.Ending.{run-fits}
+use Rattle.theory.proofs.least.run_fits.Needs as need
+
+pub returns : need.returns
+returns g c = run-fits

@@ -1,0 +1,5 @@
+use Rattle.theory.proofs.Sampling.{from-source}
+use Rattle.theory.proofs.least.sample_from_source.Needs as need
+
+pub returns : need.returns
+returns c = from-source

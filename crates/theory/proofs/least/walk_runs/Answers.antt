@@ -1,0 +1,5 @@
+use Rattle.theory.proofs.Stepping.{walk-runs}
+use Rattle.theory.proofs.least.walk_runs.Needs as need
+
+pub returns : need.returns
+returns g c = walk-runs

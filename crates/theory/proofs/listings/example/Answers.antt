@@ -1,0 +1,5 @@
+use Rattle.theory.proofs.Examples.{example}
+use Rattle.theory.proofs.listings.example.Needs as need
+
+pub returns : need.returns
+returns c = example

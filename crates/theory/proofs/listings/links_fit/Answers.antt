@@ -1,0 +1,5 @@
+use Rattle.theory.proofs.Rooms.{links-fit}
+use Rattle.theory.proofs.listings.links_fit.Needs as need
+
+pub returns : need.returns
+returns g c = links-fit _

@@ -1,0 +1,5 @@
+use Rattle.theory.proofs.Ordering.{order-runs-onward}
+use Rattle.theory.proofs.listings.order_runs_onward.Needs as need
+
+pub returns : need.returns
+returns g c = order-runs-onward _

@@ -1,0 +1,5 @@
+use Rattle.theory.proofs.Covering.{roots-reach-all}
+use Rattle.theory.proofs.listings.roots_reach_all.Needs as need
+
+pub returns : need.returns
+returns g c = roots-reach-all _
