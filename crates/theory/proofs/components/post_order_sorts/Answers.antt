@@ -1,3 +1,4 @@
+-- The law is proved in proofs/Ordering.
 use Rattle.theory.proofs.Ordering.{post-order-sorts}
 use Rattle.theory.proofs.components.post_order_sorts.Needs as need
 

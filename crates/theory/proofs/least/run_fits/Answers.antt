@@ -1,3 +1,4 @@
+-- The law is proved in proofs/Ending.
 use Rattle.theory.proofs.Ending.{run-fits}
 use Rattle.theory.proofs.least.run_fits.Needs as need
 

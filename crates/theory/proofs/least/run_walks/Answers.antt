@@ -1,3 +1,4 @@
+-- The law is proved in proofs/Running.
 use Rattle.theory.proofs.Running.{run-walks}
 use Rattle.theory.proofs.least.run_walks.Needs as need
 

@@ -1,3 +1,4 @@
+-- The law is proved in proofs/Sampling.
 use Rattle.theory.proofs.Sampling.{from-middle}
 use Rattle.theory.proofs.least.sample_from_middle.Needs as need
 

@@ -1,3 +1,4 @@
+-- The law is proved in proofs/Sampling.
 use Rattle.theory.proofs.Sampling.{from-source}
 use Rattle.theory.proofs.least.sample_from_source.Needs as need
 

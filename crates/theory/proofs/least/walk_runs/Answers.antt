@@ -1,3 +1,4 @@
+-- The law is proved in proofs/Stepping.
 use Rattle.theory.proofs.Stepping.{walk-runs}
 use Rattle.theory.proofs.least.walk_runs.Needs as need
 

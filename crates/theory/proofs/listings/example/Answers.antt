@@ -1,3 +1,4 @@
+-- The law is proved in proofs/Examples.
 use Rattle.theory.proofs.Examples.{example}
 use Rattle.theory.proofs.listings.example.Needs as need
 

@@ -1,3 +1,4 @@
+-- The law is proved in proofs/Rooms.
 use Rattle.theory.proofs.Rooms.{links-fit}
 use Rattle.theory.proofs.listings.links_fit.Needs as need
 

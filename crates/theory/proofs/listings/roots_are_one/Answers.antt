@@ -1,3 +1,4 @@
+-- The law is proved in proofs/Rooting.
 use Rattle.theory.proofs.Rooting.{roots-are-one}
 use Rattle.theory.proofs.listings.roots_are_one.Needs as need
 
