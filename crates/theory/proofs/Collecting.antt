@@ -6,8 +6,8 @@ use Prim.Native.Nat.{ℕ, zero, suc, _+_, _≤_, _<_}
 use native.Mathlib.Omega.{arith}
 use lib.ListN.{length, length-append}
 use Rattle.theory.specs.Components.{Classes, Components, Onward, collect, components, flat, gather, group, pull, take}
-use Rattle.theory.specs.Edges.{In}
-use Rattle.theory.specs.PostOrder.{Distinct, Post, State, below, fresh, fuel, in?, sweep, weight}
+use Rattle.theory.specs.Edges.{In, Distinct}
+use Rattle.theory.specs.PostOrder.{Post, State, below, fresh, fuel, in?, sweep, weight}
 use Rattle.theory.specs.Reach.{Inside, Leads, Reach, Same, Turned, here, more}
 use Rattle.theory.proofs.Finishing.{late}
 use Rattle.theory.proofs.Gathering.{Part, part-all, part-reverse, part-shut, part-skip, part-start, part-take}

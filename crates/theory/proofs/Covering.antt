@@ -8,10 +8,10 @@ use native.Mathlib.Omega.{arith}
 use lib.ListN.{length}
 use Rattle.std.proofs.shelf.Tests.{cases-bool, and-parts, and-from}
 use Rattle.theory.specs.Components.{Classes, Components, Onward, components, flat}
-use Rattle.theory.specs.Edges.{Edge, In, within}
+use Rattle.theory.specs.Edges.{Edge, In, within, Distinct}
 use Rattle.theory.specs.Graphs.{Sound, Tied}
 use Rattle.theory.specs.Listings.{Behind, Direction, Forward, Link, Links-show-all, Reverse, Roots-reach-all, Whole, entered, far, followed, inside, near, roots}
-use Rattle.theory.specs.PostOrder.{Distinct, in?}
+use Rattle.theory.specs.PostOrder.{in?}
 use Rattle.theory.specs.Reach.{Leads, Reach, Same, here, more, sources, targets}
 use Rattle.theory.proofs.Following.{near-at, near-below}
 use Rattle.theory.proofs.Grounds.{components-of-graph, in-map, source-inside, sources-turned, target-in}

@@ -3,8 +3,7 @@ use mathlib.Core.Path.{refl, sym, subst}
 use mathlib.Core.List.{List, [], _∷_, _++_, reverse}
 use mathlib.Core.Logic.{_⊎_, inl, inr, ⊎-elim}
 use Prim.Native.Nat.{ℕ}
-use Rattle.theory.specs.Edges.{In}
-use Rattle.theory.specs.PostOrder.{Distinct}
+use Rattle.theory.specs.Edges.{In, Distinct}
 use Rattle.theory.specs.Reach.{Leads, Reach, here, more}
 use Rattle.theory.proofs.Reaching.{in-cases, in-left, in-reverse, in-right, reach-eq, reverse-distinct, reverse-in}
 use Rattle.theory.proofs.PostWalking.{Adds, Pushed}

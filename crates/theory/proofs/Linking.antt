@@ -6,10 +6,10 @@ use mathlib.Core.Logic.{_⊎_, inl, inr, ⊎-elim}
 use Prim.Native.Nat.{ℕ, zero, suc, _+_, _≤_, _<_}
 use native.Mathlib.Omega.{arith}
 use lib.ListN.{length}
-use Rattle.theory.specs.Edges.{Edge, In, Once, within}
+use Rattle.theory.specs.Edges.{Edge, In, Once, within, Distinct}
 use Rattle.theory.specs.Graphs.{Sound, Tied}
 use Rattle.theory.specs.Listings.{Behind, Direction, Link, Links-show-what-roots-reach, Shows, begin, far, followed, inside, linking, links, meet, near, roots, shows}
-use Rattle.theory.specs.PostOrder.{Distinct, in?, weight}
+use Rattle.theory.specs.PostOrder.{in?, weight}
 use Rattle.theory.specs.Reach.{Reach, here, more}
 use Rattle.theory.proofs.Following.{far-below, listed-once, near-at, one-number}
 use Rattle.theory.proofs.Kept.{in-kept, once-kept}

@@ -7,10 +7,10 @@ use Prim.Native.Nat.{ℕ}
 use Rattle.std.specs.shelf.Lists.{kept-by}
 use Rattle.std.proofs.shelf.Tests.{cond-both, cond-true, and-parts}
 use Rattle.theory.specs.Components.{Classes, Components, Edges-run-onward, Onward, components, flat}
-use Rattle.theory.specs.Edges.{Edge, In, within}
+use Rattle.theory.specs.Edges.{Edge, In, within, Distinct}
 use Rattle.theory.specs.Graphs.{Sound, Tied}
 use Rattle.theory.specs.Listings.{Direction, Forward, Order, Order-runs-onward, Reverse, order}
-use Rattle.theory.specs.PostOrder.{Before, Distinct, Post-order-sorts}
+use Rattle.theory.specs.PostOrder.{Before, Post-order-sorts}
 use Rattle.theory.specs.Reach.{Same, sources, targets}
 use Rattle.theory.proofs.Grounds.{components-of-graph, source-inside, target-in}
 use Rattle.theory.proofs.Kept.{in-kept, kept-in}

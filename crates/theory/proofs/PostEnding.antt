@@ -3,9 +3,9 @@ use mathlib.Core.Path.{_≡_, subst}
 use mathlib.Core.List.{List, [], _∷_}
 use mathlib.Core.Logic.{_⊎_, inl, inr, ⊎-elim}
 use Prim.Native.Nat.{ℕ}
-use Rattle.theory.specs.Edges.{In}
+use Rattle.theory.specs.Edges.{In, Distinct}
 use Rattle.theory.specs.Listings.{inside}
-use Rattle.theory.specs.PostOrder.{Distinct, Via, Walk-finishes-what-it-reaches, in?, run, step}
+use Rattle.theory.specs.PostOrder.{Via, Walk-finishes-what-it-reaches, in?, run, step}
 use Rattle.theory.specs.Reach.{Leads, Reach, here, more}
 use Rattle.theory.proofs.Reaching.{cons-nil}
 use Rattle.theory.proofs.PostRunning.{State-keeps, run-ends, run-keeps, visit-keeps}

@@ -4,8 +4,7 @@ use mathlib.Core.Path.{_≡_, refl, sym, ap, subst}
 use mathlib.Core.List.{List, [], _∷_, _++_}
 use mathlib.Core.Logic.{_⊎_, inl, inr, ⊎-elim}
 use Prim.Native.Nat.{ℕ}
-use Rattle.theory.specs.Edges.{In}
-use Rattle.theory.specs.PostOrder.{Distinct}
+use Rattle.theory.specs.Edges.{In, Distinct}
 use Rattle.theory.specs.Reach.{Leads, Reach, more}
 use Rattle.theory.proofs.Reaching.{in-cast, reach-eq}
 

@@ -3,8 +3,7 @@ use mathlib.Core.Path.{_≡_, refl, subst}
 use mathlib.Core.List.{List, [], _∷_, _++_, reverse, reverseAux}
 use mathlib.Core.Logic.{_⊎_, inl, inr, ⊎-elim}
 use Prim.Native.Nat.{ℕ}
-use Rattle.theory.specs.Edges.{In}
-use Rattle.theory.specs.PostOrder.{Distinct}
+use Rattle.theory.specs.Edges.{In, Distinct}
 use Rattle.theory.specs.Reach.{Reach, Same, here, more}
 
 pub reach-trans : {E : ℕ → ℕ → Type 0} {a b c : ℕ} → Reach E a b → Reach E b c → Reach E a c

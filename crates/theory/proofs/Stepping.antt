@@ -10,9 +10,9 @@ use lib.Dec.{eqb}
 use Rattle.std.specs.declared.option.Option.{Option}
 use Rattle.std.specs.declared.option.Option.the-variants.{Some}
 use Rattle.std.proofs.shelf.Tests.{or-left, both-ways}
-use Rattle.theory.specs.Edges.{In}
+use Rattle.theory.specs.Edges.{In, Distinct}
 use Rattle.theory.specs.Rules.{Rule}
-use Rattle.theory.specs.Walk.{Place, mark, found, dropped, finished, Step, after, Walks, start, turn, did, run, order, Apart}
+use Rattle.theory.specs.Walk.{Place, mark, found, dropped, finished, Step, after, Walks, start, turn, did, run, order}
 use Rattle.theory.specs.Walk.Step.{ends, finds, drops, finishes}
 use Rattle.theory.specs.Walk.Walks.{begins, goes}
 use Rattle.theory.proofs.Looking.{turn-saw, turn-passed, turn-closed}
@@ -88,7 +88,7 @@ module _ {E : Type 0} (lst : ℕ → List E) (far : E → ℕ) (r : Rule E) wher
 
   -- xs are the nodes done, each once; what was seen is done or on the stack
   record Lists (xs : List ℕ) (s : Place E) : Type 0 where
-    apart : Apart xs
+    apart : Distinct xs
     all : (n : ℕ) → s .done n ≡ true → In n xs
     only : (n : ℕ) → In n xs → s .done n ≡ true
     saw-done : (n : ℕ) → s .done n ≡ true → s .seen n ≡ true
@@ -130,7 +130,7 @@ module _ {E : Type 0} (lst : ℕ → List E) (far : E → ℕ) (r : Rule E) wher
   walk-lists s xs t (begins q z) l = subst (λ v. Lists v t) (sym q) (subst (Lists []) (sym z) l)
   walk-lists s xs t (goes a ys u w st q) l = subst (λ v. Lists v t) (sym q) (step-lists a ys t u st (walk-lists s ys u w l))
 
-  pub walk-does-each-once : (initials xs : List ℕ) (t : Place E) → Walks lst far r (start initials) xs t → t .stack ≡ [] → Apart xs × ((n : ℕ) → t .seen n ≡ true → In n xs) × ((n : ℕ) → In n xs → t .seen n ≡ true)
+  pub walk-does-each-once : (initials xs : List ℕ) (t : Place E) → Walks lst far r (start initials) xs t → t .stack ≡ [] → Distinct xs × ((n : ℕ) → t .seen n ≡ true → In n xs) × ((n : ℕ) → In n xs → t .seen n ≡ true)
   walk-does-each-once initials xs t w z =
       let l = walk-lists (start initials) xs t w (record {
         apart = tt;

@@ -5,8 +5,8 @@ use mathlib.Core.Logic.{_⊎_, inl, inr, ⊎-elim}
 use Prim.Native.Nat.{ℕ, zero, suc, _≤_, _<_}
 use native.Mathlib.Decide.{ℕ-discrete}
 use native.Mathlib.Omega.{arith}
-use Rattle.theory.specs.Edges.{In}
-use Rattle.theory.specs.PostOrder.{Distinct, Post, Sweep-finishes-in-post-order, below, fresh, fuel, in?, run, step, sweep, visit, walk-from}
+use Rattle.theory.specs.Edges.{In, Distinct}
+use Rattle.theory.specs.PostOrder.{Post, Sweep-finishes-in-post-order, below, fresh, fuel, in?, run, step, sweep, visit, walk-from}
 use Rattle.theory.specs.Reach.{Inside}
 use Rattle.theory.proofs.Finishing.{post-step}
 use Rattle.theory.proofs.Pushing.{adds, pushed, weight-most}

@@ -11,10 +11,10 @@ use mathlib.Core.Logic.{_⊎_}
 use mathlib.Core.Bool.{Bool}
 use Prim.Native.Nat.{ℕ, zero, suc, _+_, _≤_, _<_}
 use lib.ListN.{length}
-use Rattle.theory.specs.Edges.{Edge, In}
+use Rattle.theory.specs.Edges.{Edge, In, Distinct}
 use Rattle.theory.specs.Graphs.{Sound, Tied}
 use Rattle.theory.specs.Reach.{Same, Inside, targets, sources}
-use Rattle.theory.specs.PostOrder.{Distinct, Before, in?, below, fresh, State, run, sweep, fuel, share}
+use Rattle.theory.specs.PostOrder.{Before, in?, below, fresh, State, run, sweep, fuel, share}
 
 -- A new top is taken, and its far ends not yet taken are stacked. `disc` is what is taken in all, `fin` the group, the latest first.
 abbrev pub take : (ℕ → List ℕ) → (v : ℕ) (s t g : List ℕ) → Dec (In v t) → State

@@ -1,5 +1,5 @@
 -- Edge: an edge by its ends, its number and its record.
--- In: an item stands in a list.  Once: no two places of a list hold edges of one number.
+-- In: an item stands in a list.  Distinct: no item stands twice in it.  Once: no two of its places hold edges of one number.
 -- turn: an edge with its ends swapped.  within: both ends are in a set.  leaves, enters: an edge has this source, this target.
 -- Assumes nothing.
 use mathlib.Core.Path.{_≡_}
@@ -20,6 +20,11 @@ pub record Edge (W : Type 0) : Type 0 where
 abbrev pub In : {X : Type 0} → X → List X → Type 0
 In x [] = ⊥
 In x (y ∷ ys) = (x ≡ y) ⊎ In x ys
+
+-- no item stands twice
+abbrev pub Distinct : {X : Type 0} → List X → Type 0
+Distinct [] = Unit {0}
+Distinct (x ∷ l) = (In x l → ⊥) × Distinct l
 
 -- no two places of the list hold edges of one number
 abbrev pub Once : {W : Type 0} → List (Edge W) → Type 0

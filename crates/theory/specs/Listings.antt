@@ -14,9 +14,9 @@ use Prim.Native.Nat.{ℕ, zero, suc, _+_, _≤_, _<_}
 use lib.Dec.{eqb}
 use lib.ListN.{length}
 use Rattle.std.specs.shelf.Lists.{kept-by}
-use Rattle.theory.specs.Edges.{Edge, In, Once, within}
+use Rattle.theory.specs.Edges.{Edge, In, Once, within, Distinct}
 use Rattle.theory.specs.Reach.{Reach, Same, targets, sources}
-use Rattle.theory.specs.PostOrder.{Distinct, Before, in?, below, weight, share}
+use Rattle.theory.specs.PostOrder.{Before, in?, below, weight, share}
 use Rattle.theory.specs.Components.{components, flat, Graph-law}
 
 pub data Direction : Type 0 where

@@ -1,5 +1,5 @@
 -- The post-order walk over lists of far ends, with a stack whose top comes first.
--- Distinct: no item of a list stands twice.  Before: one item is named before another.
+-- Before: one item is named before another.
 -- either?, in?: whether one of two holds; whether a number stands in a list.  below: the numbers below n.
 -- unless, fresh: a number that is not there; what is pushed for a node.  State: stack, discovered, finished.
 -- visit, step, run: one turn, and k turns, of the walk.  walk-from, sweep: the walk from a node not yet discovered; from each of a list in turn.
@@ -14,13 +14,8 @@ use mathlib.Core.Logic.{_⊎_, inl, inr, ⊎-elim}
 use Prim.Native.Nat.{ℕ, zero, suc, _+_, _≤_, _<_}
 use native.Mathlib.Decide.{ℕ-discrete}
 use lib.ListN.{length}
-use Rattle.theory.specs.Edges.{In}
+use Rattle.theory.specs.Edges.{In, Distinct}
 use Rattle.theory.specs.Reach.{Reach, Leads, Same, Inside}
-
--- no item stands twice
-abbrev pub Distinct : {X : Type 0} → List X → Type 0
-Distinct [] = Unit {0}
-Distinct (x ∷ l) = (In x l → ⊥) × Distinct l
 
 -- u is named before w
 abbrev pub Before : ℕ → ℕ → List ℕ → Type 0

@@ -6,7 +6,7 @@
 -- over, start: where a walk from some initials begins, the last of them on top.
 -- look, turn: one look at the top.  didAt, did: the node that it finishes.
 -- run, order: where a number of turns lead, and the nodes done by them, the latest first.
--- edges: how many edges there are.  enough: a number of turns that do.  Apart: no node stands twice in a list.
+-- edges: how many edges there are.  enough: a number of turns that do.
 -- Step-is-one, Step-exists, Walk-is-least, Walk-stays-inside, Walk-does-each-once, Run-walks, Walk-runs, Run-ends, Run-fits: the laws.
 -- Assumes nothing.
 use mathlib.Core.Path.{_≡_}
@@ -18,7 +18,7 @@ use lib.ListN.{length}
 use Rattle.std.specs.declared.option.Option.{Option}
 use Rattle.std.specs.declared.option.Option.the-variants.{Some, None}
 use Rattle.std.specs.shelf.Lists.{kept-by}
-use Rattle.theory.specs.Edges.{In}
+use Rattle.theory.specs.Edges.{In, Distinct}
 use Rattle.theory.specs.Rules.{Rule, Fair, hands, holds, staysAt}
 use Rattle.theory.specs.Least.{Inside, IsLeast, Finite}
 
@@ -124,11 +124,6 @@ edges lst (suc n) = edges lst n + length (lst n)
 abbrev pub enough : {E : Type 0} → (ℕ → List E) → List ℕ → ℕ → ℕ
 enough lst initials n = length initials + (n + 2 * edges lst n)
 
--- no node stands twice in the list
-abbrev pub Apart : List ℕ → Type 0
-Apart [] = Unit {0}
-Apart (x ∷ xs) = (In x xs → ⊥) × Apart xs
-
 -- a step has one answer and leads to one place
 abbrev pub Step-is-one : Type 0 → Type 0
 Step-is-one E =
@@ -152,7 +147,7 @@ Walk-stays-inside E =
 -- a walk that came to the empty stack has done each node that it saw, once
 abbrev pub Walk-does-each-once : Type 0 → Type 0
 Walk-does-each-once E =
-    (lst : ℕ → List E) (far : E → ℕ) (r : Rule E) (initials xs : List ℕ) (t : Place E) → Walks lst far r (start initials) xs t → t .stack ≡ [] → Apart xs × ((n : ℕ) → t .seen n ≡ true → In n xs) × ((n : ℕ) → In n xs → t .seen n ≡ true)
+    (lst : ℕ → List E) (far : E → ℕ) (r : Rule E) (initials xs : List ℕ) (t : Place E) → Walks lst far r (start initials) xs t → t .stack ≡ [] → Distinct xs × ((n : ℕ) → t .seen n ≡ true → In n xs) × ((n : ℕ) → In n xs → t .seen n ≡ true)
 
 -- turns that come to the empty stack are a walk
 abbrev pub Run-walks : Type 0 → Type 0
