@@ -1,6 +1,8 @@
 // Build lists: reads an order file from standard input and writes one line for each answer (docs/ORDER-FILE.md).
 // The work is done by proved functions: a line is read by the crate `records`, graphs are laid by `draft`, answers are
 // worded by `orders`. Here stands what follows what: no graph, a draft, a finished graph, and again.
+#![tactic(auto)]
+
 use draft::draft::Draft;
 use draft::finished::FinishedGraph;
 use graph::graph::Graph;

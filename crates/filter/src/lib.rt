@@ -1,5 +1,7 @@
 // Filters: what a walk asks about each edge, and tells about each node. `buffered` has the trait and its meaning, `simple`
 // filters that hold nothing, `reversed` a filter with edges turned round, `lent` and `either` filters of the same meaning.
+#![tactic(auto)]
+
 pub mod buffered;
 pub mod either;
 pub mod lent;

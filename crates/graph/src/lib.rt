@@ -1,6 +1,8 @@
 // Graphs by their meaning. `graph` has the two traits that every graph implements and all generic code is proved against;
 // `views` has a graph turned round and a graph cut down to a set of nodes. The meaning itself, Sound and Tied, stands in
 // the specs of the crate `theory`.
+#![tactic(auto)]
+
 pub mod edge;
 pub mod graph;
 pub mod lent;

@@ -1,5 +1,7 @@
 // Reads the lines of an order file into plain values.
 // A line is read by itself, with what stands when it comes; no memory is asked for.
+#![tactic(auto)]
+
 mod cursor;
 mod drafts;
 mod forms;

@@ -3,6 +3,8 @@
 // No code of use runs here: specs/ has the definitions that the contracts of the crates above cite, each function below
 // asks for the proof of one law, and proofs/ has the proofs. It stands below all code, so that no change above pays for
 // these proofs again.
+#![tactic(auto)]
+
 pub mod cases;
 pub mod components;
 pub mod least;

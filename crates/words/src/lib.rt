@@ -1,5 +1,7 @@
 // Lines, words and numbers in the bytes of an order file.
 // A result holds no reference: a part of a line is a `Span`, two places in it.
+#![tactic(auto)]
+
 mod numbers;
 mod places;
 mod spans;
