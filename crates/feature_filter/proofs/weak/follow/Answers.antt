@@ -41,8 +41,8 @@ bounds-hand-out g c =
     let lt = t.room w in
     omega (arith, c.loop-link.auto.hand)
 
-pub offset-bounds-hand-out : goal.offset-bounds-hand-out
-offset-bounds-hand-out g c =
+pub offset_bounds-hand-out : goal.offset_bounds-hand-out
+offset_bounds-hand-out g c =
     let t = turned _ _ _ _ _ _ _ _ _ c.requires.fits c.requires.linked.1 c.loop-link-test.true c.loop-link.invariant.1 _ c.requires.room c.loop-link.auto.hand in
     let e = edge_of (get_or c.args.hold.now (c.loop-link.link - 1) nothing) in
     let w = ap (λ a. wanted a (links e)) (sym c.loop-link.invariant.0) ∙ sym c.if-wants.ensures.answer in
@@ -50,8 +50,8 @@ offset-bounds-hand-out g c =
     let lt : c.loop-link.out < length c.loop-link.hand = omega (arith, c.loop-link.auto.hand) in
     search rules
 
-pub overflow-add-out : goal.overflow-add-out
-overflow-add-out g c =
+pub overflow_add-out : goal.overflow_add-out
+overflow_add-out g c =
     let t = turned _ _ _ _ _ _ _ _ _ c.requires.fits c.requires.linked.1 c.loop-link-test.true c.loop-link.invariant.1 _ c.requires.room c.loop-link.auto.hand in
     let e = edge_of (get_or c.args.hold.now (c.loop-link.link - 1) nothing) in
     let w = ap (λ a. wanted a (links e)) (sym c.loop-link.invariant.0) ∙ sym c.if-wants.ensures.answer in

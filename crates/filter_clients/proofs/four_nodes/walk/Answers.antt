@@ -13,19 +13,19 @@ use Rattle.filter_clients.proofs.four_nodes.walk.Goals as goal
 abbrev nothing : Ref
 nothing = record { source = record { 0 = 0 }; target = record { 0 = 0 }; number = 0; weight = NamedFeature }
 
-pub discover-told-0-requires : goal.discover-told-0-requires
-discover-told-0-requires c = record { fit = c.begin.ensures.fit _; room = omega (arith, c.begin.ensures.unused) }
+pub discover-told_0-requires : goal.discover-told_0-requires
+discover-told_0-requires c = record { fit = c.begin.ensures.fit _; room = omega (arith, c.begin.ensures.unused) }
 
 pub returns : goal.returns
 returns c =
     let F = c.new-filter.ensures in
     let B = c.begin.ensures in
-    let D0 = c.discover-told-0.ensures in
+    let D0 = c.discover-told_0.ensures in
     let S = c.filter-section.ensures in
     let N = c.filter-name.ensures in
-    let D1 = c.discover-told-1.ensures in
+    let D1 = c.discover-told_1.ensures in
     let L = c.filter-late.ensures in
-    let D2 = c.discover-told-2.ensures in
+    let D2 = c.discover-told_2.ensures in
     let second = meaning c.edge-second.result in
     let w = c.edge-second.ensures.1 in
     let made : feature_rule (λ (link : Link). shares c.new-filter.result.verdict.wanted link.mask) c.new-filter.result.nodes.now c.new-filter.result.direction ≡ rule =
@@ -34,7 +34,7 @@ returns c =
     let u0 = first_untold _ _ second made w B.untold in
     let a0 = tells_none _ r0 _ _ _ _ _ _ D0.discovers (B.empty _) in
     let u1 = still_untold _ r0 _ _ _ _ _ _ D0.discovers second w (ap (eqb 2) c.new.ensures) u0 in
-    let k0 = counted c.discover-told-0.result c.discover-told-0.new.hand [] (omega (arith, D0.within, c.discover-told-0.auto.hand)) a0.0 in
+    let k0 = counted c.discover-told_0.result c.discover-told_0.new.hand [] (omega (arith, D0.within, c.discover-told_0.auto.hand)) a0.0 in
     let r1 = D0.same ∙ r0 in
     let s = by_section _ _ _ (meaning c.edge-third.result) r1 c.edge-third.ensures.1 in
     let section = S.answer ∙ s.0 in
@@ -46,13 +46,13 @@ returns c =
     let u3 = ap (λ t. t 2) (N.told ∙ S.told) ∙ u1 in
     let a1 = tells_none _ r3 _ _ _ _ _ _ D1.discovers h3 in
     let u4 = still_untold _ r3 _ _ _ _ _ _ D1.discovers second w (ap (eqb 2) c.new-2.ensures) u3 in
-    let k1 = counted c.discover-told-1.result c.discover-told-1.new.hand [] (omega (arith, D1.within, c.discover-told-1.auto.hand)) a1.0 in
+    let k1 = counted c.discover-told_1.result c.discover-told_1.new.hand [] (omega (arith, D1.within, c.discover-told_1.auto.hand)) a1.0 in
     let r4 = D1.same ∙ r3 in
     let l = by_slash _ _ _ second r4 w u4 in
     let late = L.answer ∙ l.0 in
     let r5 = L.same ∙ r4 in
     let h5 = L.held ∙ l.1 ∙ ap (λ h. h ++ second ∷ []) a1.1 in
     let a2 = tells_slash _ r5 _ _ _ _ _ _ D2.discovers second c.new-3.ensures h5 w in
-    let k2 = counted c.discover-told-2.result c.discover-told-2.new.hand (second ∷ []) (omega (arith, D2.within, c.discover-told-2.auto.hand)) a2 in
-    let f = first_out c.discover-told-2.result c.discover-told-2.new.hand second nothing a2 ∙ c.edge-second.ensures.0 in
+    let k2 = counted c.discover-told_2.result c.discover-told_2.new.hand (second ∷ []) (omega (arith, D2.within, c.discover-told_2.auto.hand)) a2 in
+    let f = first_out c.discover-told_2.result c.discover-told_2.new.hand second nothing a2 ∙ c.edge-second.ensures.0 in
     cc

@@ -14,7 +14,7 @@ loop-edge-preserved g c =
     let s = c.index.ensures in
     let t = c.index-in-Some.ensures in
     let text : edge_text c.index.result c.index-in-Some.result e.number ≡ edge_text (g.Ix.IndexType.number e.source) (g.Ix.IndexType.number e.target) e.number = cc in
-    let w = c.in-ok-write-edge.ensures in
+    let w = c.in_ok-write_edge.ensures in
     ap (λ xs. xs ++ edges_text (left c.next.new.c)) (w ∙ ap (λ xs. vec_items l.out ++ xs) text)
     ∙ append_assoc (vec_items l.out) _ (edges_text (left c.next.new.c))
     ∙ ap (λ es. vec_items l.out ++ edges_text es) (sym q) ∙ l.invariant

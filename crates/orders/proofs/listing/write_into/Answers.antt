@@ -3,8 +3,8 @@ use Rattle.std.proofs.Common.{◌≡◌, ◌<◌, length, ap, ◌∙◌, arith}
 use Rattle.theory.proofs.Kept.{at_most}
 use Rattle.orders.proofs.listing.write_into.Goals as goal
 
-pub write-list-requires : goal.write-list-requires
-write-list-requires g c =
+pub write_list-requires : goal.write_list-requires
+write_list-requires g c =
     let s = c.sound.ensures in
     let t = c.incoming-start.ensures.tied in
     let few = at_most _ _ (t.once c.args.node) (λ e i. s.number _ e (t.out c.args.node e i)) in

@@ -6,6 +6,6 @@ use Rattle.orders.proofs.listing.write_list.Goals as goal
 
 pub returns : goal.returns
 returns g c =
-    writes_then c.write-edges.result (vec_items c.args.out.now) (vec_items c.write-head.new.out) (vec_items c.write-edges.new.out) _ _
-    (c.in-ok-write-head.ensures ∙ ap (λ k. vec_items c.args.out.now ++ head_text c.args.name.now c.args.node k) c.count-k.ensures)
-    c.write-edges.ensures
+    writes_then c.write_edges.result (vec_items c.args.out.now) (vec_items c.write_head.new.out) (vec_items c.write_edges.new.out) _ _
+    (c.in_ok-write_head.ensures ∙ ap (λ k. vec_items c.args.out.now ++ head_text c.args.name.now c.args.node k) c.count-k.ensures)
+    c.write_edges.ensures

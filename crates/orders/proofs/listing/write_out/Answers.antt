@@ -3,8 +3,8 @@ use Rattle.std.proofs.Common.{◌≡◌, ◌<◌, length, ap, ◌∙◌, arith}
 use Rattle.theory.proofs.Kept.{at_most}
 use Rattle.orders.proofs.listing.write_out.Goals as goal
 
-pub write-list-requires : goal.write-list-requires
-write-list-requires g c =
+pub write_list-requires : goal.write_list-requires
+write_list-requires g c =
     let s = c.sound.ensures in
     let few = at_most _ _ (s.once c.args.node) (s.number c.args.node) in
     let small = s.few_edges in

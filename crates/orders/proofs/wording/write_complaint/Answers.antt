@@ -6,7 +6,7 @@ use Rattle.orders.proofs.wording.write_complaint.Goals as goal
 
 pub returns : goal.returns
 returns c =
-    let half = vec_items c.write-why.new.out in
-    writes_more c.extend-from-slice.result (vec_items c.args.out.now) half (vec_items c.extend-from-slice.new.self) (bad_text c.args.complaint c.args.number) (word_of c.args.complaint c.args.line.now)
-    c.in-ok-write-why.ensures
-    (c.extend-from-slice.ensures.items ∙ ap (λ xs. cond (is_ok c.extend-from-slice.result) (half ++ xs) half) c.wrong-word.ensures)
+    let half = vec_items c.write_why.new.out in
+    writes_more c.extend_from_slice.result (vec_items c.args.out.now) half (vec_items c.extend_from_slice.new.self) (bad_text c.args.complaint c.args.number) (word_of c.args.complaint c.args.line.now)
+    c.in_ok-write_why.ensures
+    (c.extend_from_slice.ensures.items ∙ ap (λ xs. cond (is_ok c.extend_from_slice.result) (half ++ xs) half) c.wrong_word.ensures)

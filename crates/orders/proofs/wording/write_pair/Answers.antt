@@ -6,5 +6,5 @@ use Rattle.orders.proofs.wording.write_pair.Goals as goal
 
 pub returns : goal.returns
 returns c =
-    let text : string_bytes c.in-ok-text.text ≡ pair_text c.args.index = c.in-ok-text.ensures.ok in
-    writes_text c.extend-from-slice.result (vec_items c.args.out.now) (vec_items c.extend-from-slice.new.self) _ (pair_text c.args.index) c.extend-from-slice.ensures.items (c.as-bytes.ensures.value ∙ text)
+    let text : string_bytes c.in_ok-text.text ≡ pair_text c.args.index = c.in_ok-text.ensures.ok in
+    writes_text c.extend_from_slice.result (vec_items c.args.out.now) (vec_items c.extend_from_slice.new.self) _ (pair_text c.args.index) c.extend_from_slice.ensures.items (c.as_bytes.ensures.value ∙ text)

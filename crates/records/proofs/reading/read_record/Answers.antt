@@ -3,13 +3,13 @@ use Rattle.std.proofs.Common.{rules}
 use Rattle.records.specs.Reading.{record_of}
 use Rattle.records.proofs.reading.read_record.Goals as goal
 
-pub returns-in-default : goal.returns-in-default
+pub returns-in_default : goal.returns-in_default
 unfolding record_of
-returns-in-default c = search rules
+returns-in_default c = search rules
 
-pub returns-in-err-found : goal.returns-in-err-found
+pub returns-in_err-found : goal.returns-in_err-found
 unfolding record_of
-returns-in-err-found c = search rules
+returns-in_err-found c = search rules
 
 pub returns : goal.returns
 unfolding record_of

@@ -20,12 +20,12 @@ those = refl
 
 pub returns : goal.returns
 returns c =
-    let left = c.in-ok-left.left in
-    let right = c.in-ok-right.right in
-    let after = c.symmetric-difference-with.new.self in
-    let a = made_of 65 _ (64 ∷ 0 ∷ 2 ∷ 64 ∷ []) left (same_four _ _ _ _ 64 0 2 64 c.new.ensures c.new-2.ensures c.new-3.ensures c.new-4.ensures) refl c.in-ok-left.ensures in
-    let b = made_of 65 _ (2 ∷ 3 ∷ []) right (ap₂ (λ x y. x ∷ y ∷ []) c.new-5.ensures c.new-6.ensures) refl c.in-ok-right.ensures in
-    let m = c.symmetric-difference-with.ensures in
+    let left = c.in_ok-left.left in
+    let right = c.in_ok-right.right in
+    let after = c.symmetric_difference_with.new.self in
+    let a = made_of 65 _ (64 ∷ 0 ∷ 2 ∷ 64 ∷ []) left (same_four _ _ _ _ 64 0 2 64 c.new.ensures c.new-2.ensures c.new-3.ensures c.new-4.ensures) refl c.in_ok-left.ensures in
+    let b = made_of 65 _ (2 ∷ 3 ∷ []) right (ap₂ (λ x y. x ∷ y ∷ []) c.new-5.ensures c.new-6.ensures) refl c.in_ok-right.ensures in
+    let m = c.symmetric_difference_with.ensures in
     let is : members after ≡ 0 ∷ 3 ∷ 64 ∷ [] =
     ap (listing (member after)) (m.nodes ∙ a.0)
     ∙ listing_ext (member after) one 65 (λ n _. m.members n ∙ ap₂ (λ t k. t && ltb n k) (ap₂ (combined SymmetricDifference) (a.1 n) (b.1 n)) a.0)
@@ -35,7 +35,7 @@ returns c =
     let third = step_some _ _ _ 64 [] second.1 c.next-3.ensures.steps in
     let fourth = step_none _ _ _ third.1 c.next-4.ensures.steps in
     ap₂ (λ x xs. x ∷ xs) (c.len.ensures ∙ ap length is) (same_four _ _ _ _ 0 3 64 99
-    (c.number-or-first.ensures ∙ number_some c.next.result 0 99 first.0)
-    (c.number-or-second.ensures ∙ number_some c.next-2.result 3 99 second.0)
-    (c.number-or-third.ensures ∙ number_some c.next-3.result 64 99 third.0)
-    (c.number-or-fourth.ensures ∙ number_none c.next-4.result 99 fourth))
+    (c.number_or-first.ensures ∙ number_some c.next.result 0 99 first.0)
+    (c.number_or-second.ensures ∙ number_some c.next-2.result 3 99 second.0)
+    (c.number_or-third.ensures ∙ number_some c.next-3.result 64 99 third.0)
+    (c.number_or-fourth.ensures ∙ number_none c.next-4.result 99 fourth))

@@ -8,11 +8,11 @@ pub loop-at-init : goal.loop-at-init
 loop-at-init c = seek_none blank c.args.text.now c.args.start _ c.min-at.ensures
 
 pub loop-at-preserved : goal.loop-at-preserved
-loop-at-preserved c = seek_more blank _ _ _ c.loop-at.invariant c.loop-at-test.true (sym c.if-not-is-blank.ensures)
+loop-at-preserved c = seek_more blank _ _ _ c.loop-at.invariant c.loop-at-test.true (sym c.if-not-is_blank.ensures)
 
-pub returns-else-not-is-blank : goal.returns-else-not-is-blank
-returns-else-not-is-blank c =
-    let s = seek_here blank _ _ _ c.loop-at.invariant c.loop-at-test.true (sym c.if-not-is-blank.ensures) in
+pub returns-else-not-is_blank : goal.returns-else-not-is_blank
+returns-else-not-is_blank c =
+    let s = seek_here blank _ _ _ c.loop-at.invariant c.loop-at-test.true (sym c.if-not-is_blank.ensures) in
     record { value = s.value; first = s.first }
 
 pub returns-after-loop-at : goal.returns-after-loop-at

@@ -6,11 +6,11 @@ use Rattle.draft.proofs.Deciding.{edge_fits, taken}
 use Rattle.draft.specs.Drafting.{state_of, unregistered}
 use Rattle.weak.specs.Registered.{pairs}
 use Rattle.std.proofs.lemmas.Bool.{lt-leb}
-use Rattle.draft.proofs.draft.Draft.add_edge.Goals.{in-Some+else-index-len, in-default}
+use Rattle.draft.proofs.draft.Draft.add_edge.Goals.{in-Some+else-index-len, in_default}
 use Rattle.draft.proofs.draft.Draft.add_edge.Goals as goal
 
-pub invariant-of-self : goal.invariant-of-self
-invariant-of-self g c =
+pub invariant_of-self : goal.invariant_of-self
+invariant_of-self g c =
     let d = c.args.self.now in
     let vs = c.lay.new.self.words.now in
     let l = c.lay.ensures.laid in
@@ -32,10 +32,10 @@ returns g c =
     let vs = c.lay.new.self.words.now in
     let held = g.Edge.EdgeRecord.held in
     let registered : unregistered (length (pairs d.weak)) (g.Edge.EdgeRecord.weak c.args.weight) ≡ false =
-    elim c.match-weak-index.branch [
+    elim c.match-weak_index.branch [
       | in-Some+else-index-len w ↦
           ap (unregistered (length (pairs d.weak))) (sym w.in-Some.ensures) ∙ lt-leb (length (pairs d.weak)) w.in-Some.index.0 (let n = w.len.ensures in let b = w.if-index-len.false in omega arith)
-      | in-default w ↦ ap (unregistered (length (pairs d.weak))) (sym w.in-default.ensures)
+      | in_default w ↦ ap (unregistered (length (pairs d.weak))) (sym w.in_default.ensures)
     ] in
     let four : length c.encode.result ≡ 4 = omega arith in
     taken held (g.Edge.EdgeRecord.weak c.args.weight) (state_of d.raw d.weak) _ _ c.args.weight _ (state_of c.lay.new.self d.weak)

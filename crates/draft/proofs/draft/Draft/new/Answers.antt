@@ -3,5 +3,5 @@ use Rattle.std.proofs.Common.{arith}
 use Rattle.draft.proofs.Laying.{clear_chains}
 use Rattle.draft.proofs.draft.Draft.new.Goals as goal
 
-pub invariant-of-result : goal.invariant-of-result
-invariant-of-result g c = ((omega arith, omega arith, omega arith), (∣ clear_chains c.args.words.now 0 (λ k b. absurd (omega arith)) ∣₁, tt))
+pub invariant_of-result : goal.invariant_of-result
+invariant_of-result g c = ((omega arith, omega arith, omega arith), (∣ clear_chains c.args.words.now 0 (λ k b. absurd (omega arith)) ∣₁, tt))

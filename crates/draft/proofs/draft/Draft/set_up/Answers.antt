@@ -4,8 +4,8 @@ use Rattle.draft.specs.Table.{Chains}
 use Rattle.draft.proofs.Laying.{clear_chains}
 use Rattle.draft.proofs.draft.Draft.set_up.Goals as goal
 
-pub invariant-of-self : goal.invariant-of-self
-invariant-of-self g c =
+pub invariant_of-self : goal.invariant_of-self
+invariant_of-self g c =
     let vs = c.clear.new.self.words.now in
     let k = c.clear.ensures in
     let p = k.nodes in

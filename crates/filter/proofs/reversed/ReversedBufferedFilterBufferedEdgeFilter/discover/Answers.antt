@@ -14,5 +14,5 @@ returns g c =
       used = k.used;
       same = ap turned_rule k.same;
       within = k.within;
-      discovers = turned_discovers _ _ _ _ _ _ _ _ k.discovers (ap (map (meant number)) c.turn-front.ensures ∙ meant_turned number _);
+      discovers = turned_discovers _ _ _ _ _ _ _ _ k.discovers (ap (map (meant number)) c.turn_front.ensures ∙ meant_turned number _);
     }

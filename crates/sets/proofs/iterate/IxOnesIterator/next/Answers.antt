@@ -27,40 +27,40 @@ module _ {S : Type 0} (o : IxOnes S) (row bits : ℕ) (inv : (bits < 2 ^ 64) × 
       gives (member s) s.nodes o.row o.bits o.remaining row bits k ((1 * 2 ^ k) % 2 ^ 64) o.within o.counted inv.1 positive inv.0 refl
       (one_shl k 64 (trailing_here 64 bits positive inv.0).0)
 
-pub returns-then-row-word-count : goal.returns-then-row-word-count
-returns-then-row-word-count g c =
+pub returns-then-row-word_count : goal.returns-then-row-word_count
+returns-then-row-word_count g c =
     let o = c.args.self.now in
     let s = o.set.now in
     let none : listing (pending (member s) o.row o.bits) s.nodes ≡ [] = listing_none (pending (member s) o.row o.bits) s.nodes
     (λ n _. sym (c.loop-bits.invariant.1 n) ∙ ap (λ w. pending (member s) c.loop-bits.row w n) c.loop-bits-test.true
-    ∙ pending_end (member s) c.loop-bits.row s.nodes n (omega (arith, c.word-count.ensures)) s.within) in
+    ∙ pending_end (member s) c.loop-bits.row s.nodes n (omega (arith, c.word_count.ensures)) s.within) in
     record { steps = subst (λ l. Steps l None l) (sym none) (refl, refl); goes = firm (tt) (λ h. search rules) }
 
 pub loop-bits-preserved : goal.loop-bits-preserved
 loop-bits-preserved g c =
     let s = c.args.self.now.set.now in (
-      c.word-bits.type-inv,
+      c.word-bits.type_inv,
       λ n. pending_next (member s) c.loop-bits.row c.word-bits.result n c.word-bits.ensures
           ∙ sym (ap (λ w. pending (member s) c.loop-bits.row w n) c.loop-bits-test.true) ∙ c.loop-bits.invariant.1 n,
     )
 
-pub overflow-shl-self : goal.overflow-shl-self
-overflow-shl-self g c = (it c.args.self.now c.loop-bits.row c.loop-bits.bits c.loop-bits.invariant c.loop-bits-test.false).digit
+pub overflow_shl-self : goal.overflow_shl-self
+overflow_shl-self g c = (it c.args.self.now c.loop-bits.row c.loop-bits.bits c.loop-bits.invariant c.loop-bits-test.false).digit
 
-pub overflow-sub-self : goal.overflow-sub-self
-overflow-sub-self g c = (it c.args.self.now c.loop-bits.row c.loop-bits.bits c.loop-bits.invariant c.loop-bits-test.false).some
+pub overflow_sub-self : goal.overflow_sub-self
+overflow_sub-self g c = (it c.args.self.now c.loop-bits.row c.loop-bits.bits c.loop-bits.invariant c.loop-bits-test.false).some
 
-pub invariant-of-self : goal.invariant-of-self
-invariant-of-self g c = let h = it c.args.self.now c.loop-bits.row c.loop-bits.bits c.loop-bits.invariant c.loop-bits-test.false in (h.within, (h.counted, tt))
+pub invariant_of-self : goal.invariant_of-self
+invariant_of-self g c = let h = it c.args.self.now c.loop-bits.row c.loop-bits.bits c.loop-bits.invariant c.loop-bits-test.false in (h.within, (h.counted, tt))
 
-pub overflow-cast-row : goal.overflow-cast-row
-overflow-cast-row g c = omega (arith, (it c.args.self.now c.loop-bits.row c.loop-bits.bits c.loop-bits.invariant c.loop-bits-test.false).node, c.args.self.now.set.now.few)
+pub overflow_cast-row : goal.overflow_cast-row
+overflow_cast-row g c = omega (arith, (it c.args.self.now c.loop-bits.row c.loop-bits.bits c.loop-bits.invariant c.loop-bits-test.false).node, c.args.self.now.set.now.few)
 
-pub overflow-mul-row : goal.overflow-mul-row
-overflow-mul-row g c = omega (arith, (it c.args.self.now c.loop-bits.row c.loop-bits.bits c.loop-bits.invariant c.loop-bits-test.false).node, c.args.self.now.set.now.few)
+pub overflow_mul-row : goal.overflow_mul-row
+overflow_mul-row g c = omega (arith, (it c.args.self.now c.loop-bits.row c.loop-bits.bits c.loop-bits.invariant c.loop-bits-test.false).node, c.args.self.now.set.now.few)
 
-pub overflow-add-row-2 : goal.overflow-add-row-2
-overflow-add-row-2 g c = omega (arith, (it c.args.self.now c.loop-bits.row c.loop-bits.bits c.loop-bits.invariant c.loop-bits-test.false).node, c.args.self.now.set.now.few)
+pub overflow_add-row-2 : goal.overflow_add-row-2
+overflow_add-row-2 g c = omega (arith, (it c.args.self.now c.loop-bits.row c.loop-bits.bits c.loop-bits.invariant c.loop-bits-test.false).node, c.args.self.now.set.now.few)
 
 pub returns : goal.returns
 returns g c =

@@ -10,8 +10,8 @@ pub loop-i-preserved : goal.loop-i-preserved
 loop-i-preserved g c =
     let s = c.loop-i.self in
     let i = c.loop-i.i in (
-      c.put-word.ensures.nodes ∙ c.loop-i.invariant.0,
-      λ n. c.put-word.ensures.members n
+      c.put_word.ensures.nodes ∙ c.loop-i.invariant.0,
+      λ n. c.put_word.ensures.members n
           ∙ ap (λ b. cond (eqb (n / 64) i) (bit 0 (n % 64) && ltb n s.nodes) b) (c.loop-i.invariant.1 n)
           ∙ up_to_more (member c.args.self.now) (λ _. false) (λ k. bit 0 (k % 64) && ltb k s.nodes) i n (λ _. ap (λ b. b && ltb n s.nodes) (bit_zero (n % 64))),
     )

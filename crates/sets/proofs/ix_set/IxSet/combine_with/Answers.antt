@@ -14,15 +14,15 @@ loop-i-preserved g c =
     let s = c.loop-i.self in
     let i = c.loop-i.i in
     let how = c.args.operation in
-    let w = c.on-words-word.result in
+    let w = c.on_words-word.result in
     let q : ℕ → Bool = λ k. combined how (member old k) (member other k) && ltb k old.nodes in (
-      c.put-word.ensures.nodes ∙ c.loop-i.invariant.0,
-      λ n. c.put-word.ensures.members n
+      c.put_word.ensures.nodes ∙ c.loop-i.invariant.0,
+      λ n. c.put_word.ensures.members n
           ∙ ap (λ b. cond (eqb (n / 64) i) (bit w (n % 64) && ltb n s.nodes) b) (c.loop-i.invariant.1 n)
           ∙ up_to_more (member old) q (λ k. bit w (k % 64) && ltb k s.nodes) i n (λ e.
           let at : i * 64 + n % 64 ≡ n = omega arith in
           ap₂ (λ a m. a && ltb n m)
-          (c.on-words-word.ensures (n % 64)
+          (c.on_words-word.ensures (n % 64)
           ∙ ap₂ (combined how)
           (c.word.ensures (n % 64) (omega arith) ∙ ap (member s) at ∙ c.loop-i.invariant.1 n ∙ up_to_here (member old) q i n e)
           (c.word-in-loop-i.ensures (n % 64) (omega arith) ∙ ap (member other) at))
@@ -37,6 +37,6 @@ returns g c =
     let q : ℕ → Bool = λ k. combined how (member old k) (member other k) && ltb k old.nodes in
     record {
       nodes = c.loop-i.invariant.0;
-      members = λ n. c.loop-i.invariant.1 n ∙ up_to_all (member old) q c.loop-i.i old.nodes n (omega (arith, c.word-count-i-end.ensures)) old.within
+      members = λ n. c.loop-i.invariant.1 n ∙ up_to_all (member old) q c.loop-i.i old.nodes n (omega (arith, c.word_count-i-end.ensures)) old.within
           (λ j b. and_right (combined how (member old j) (member other j)) (ltb j old.nodes) (le-ltb j old.nodes b));
     }

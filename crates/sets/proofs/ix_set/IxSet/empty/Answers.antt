@@ -8,11 +8,11 @@ use Rattle.sets.proofs.ix_set.IxSet.empty.Goals as goal
 zeros : (ws : List ℕ) (m : ℕ) → ws ≡ replicate m 0 → (n : ℕ) → has ws n ≡ false
 zeros ws m e n = ap (λ xs. has xs n) e ∙ has_zeros m n
 
-pub invariant-of-result : goal.invariant-of-result
-invariant-of-result g c =
-    let ws = vec_items c.in-ok-words.words in
-    let none : (n : ℕ) → has ws n ≡ false = zeros ws ((c.args.nodes + 63) / 64) (c.in-ok-words.ensures.items-if-clones-equal (λ y e. e)) in
-    (c.ranges.nodes.fits, (c.in-ok-words.ensures.len, ((λ n l. none n), (sym (count_none (has ws) c.args.nodes none), tt))))
+pub invariant_of-result : goal.invariant_of-result
+invariant_of-result g c =
+    let ws = vec_items c.in_ok-words.words in
+    let none : (n : ℕ) → has ws n ≡ false = zeros ws ((c.args.nodes + 63) / 64) (c.in_ok-words.ensures.items-if-clones-equal (λ y e. e)) in
+    (c.ranges.nodes.fits, (c.in_ok-words.ensures.len, ((λ n l. none n), (sym (count_none (has ws) c.args.nodes none), tt))))
 
 pub returns : goal.returns
-returns g c = (refl, zeros (vec_items c.in-ok-words.words) ((c.args.nodes + 63) / 64) (c.in-ok-words.ensures.items-if-clones-equal (λ y e. e)))
+returns g c = (refl, zeros (vec_items c.in_ok-words.words) ((c.args.nodes + 63) / 64) (c.in_ok-words.ensures.items-if-clones-equal (λ y e. e)))

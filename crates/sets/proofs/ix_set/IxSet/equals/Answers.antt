@@ -19,7 +19,7 @@ pub returns-then-word : goal.returns-then-word
 returns-then-word g c =
     let i = c.loop-i.i in (
       λ e. let z : ◌≡◌ {A = ℕ} 0 1 = cc in absurd (omega arith),
-      λ same. absurd (c.if-word.true (same_words 64 c.word.result c.word-in-loop-i.result c.word.type-inv c.word-in-loop-i.type-inv
+      λ same. absurd (c.if-word.true (same_words 64 c.word.result c.word-in-loop-i.result c.word.type_inv c.word-in-loop-i.type_inv
           (λ j l. c.word.ensures j l ∙ same (i * 64 + j) ∙ sym (c.word-in-loop-i.ensures j l)))),
     )
 

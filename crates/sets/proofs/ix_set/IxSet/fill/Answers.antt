@@ -12,8 +12,8 @@ loop-i-preserved g c =
     let s = c.loop-i.self in
     let i = c.loop-i.i in
     let full = 2 ^ 64 - 1 in (
-      c.put-word.ensures.nodes ∙ c.loop-i.invariant.0,
-      λ n. c.put-word.ensures.members n
+      c.put_word.ensures.nodes ∙ c.loop-i.invariant.0,
+      λ n. c.put_word.ensures.members n
           ∙ ap (λ b. cond (eqb (n / 64) i) (bit full (n % 64) && ltb n s.nodes) b) (c.loop-i.invariant.1 n)
           ∙ up_to_more (member c.args.self.now) (λ k. ltb k c.args.self.now.nodes) (λ k. bit full (k % 64) && ltb k s.nodes) i n
           (λ _. ap₂ (λ a m. a && ltb n m) (low_bits (n % 64) 64 ∙ lt-ltb (n % 64) 64 (omega arith)) c.loop-i.invariant.0),

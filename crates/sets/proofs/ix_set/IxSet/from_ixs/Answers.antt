@@ -16,7 +16,7 @@ loop-ix-preserved g c =
     let s = c.loop-ix.set in
     let l : i < length (map number xs) = rw (length-map xs number) c.loop-ix-test.true in
     let is : get_or (map number xs) i 0 ≡ number x = get_or-map number xs i x 0 c.loop-ix-test.true ∙ ap number (sym c.ix-item.is) in
-    let none : beyond c.args.nodes (map number xs) ≡ None = sym c.first-beyond.ensures ∙ c.in-default.is in
+    let none : beyond c.args.nodes (map number xs) ≡ None = sym c.first_beyond.ensures ∙ c.in_default.is in
     let node : ltb (number x) s.nodes ≡ true =
     ap₂ ltb (sym is) c.loop-ix.invariant.0 ∙ failing_passes (λ n. ltb n c.args.nodes) (map number xs) none i l in (
       c.insert.ensures.nodes ∙ c.loop-ix.invariant.0,
@@ -29,6 +29,6 @@ pub returns : goal.returns
 returns g c =
     let number = g.S.Ix.IndexType.number in
     let xs = map number c.args.ixs.now in
-    let none : beyond c.args.nodes xs ≡ None = sym c.first-beyond.ensures ∙ c.in-default.is in
+    let none : beyond c.args.nodes xs ≡ None = sym c.first_beyond.ensures ∙ c.in_default.is in
     subst (λ o. MakesBy o c.args.nodes xs (Ok c.loop-ix.set)) (sym none)
     (c.loop-ix.invariant.0, λ n. c.loop-ix.invariant.1 n ∙ ap (λ ys. among ys n) (take_all c.loop-ix.ix-index xs (omega (arith, length-map c.args.ixs.now number))))

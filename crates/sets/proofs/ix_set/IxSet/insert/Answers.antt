@@ -10,8 +10,8 @@ use Rattle.bits.proofs.Rows.{put_has, put_below, put_count}
 use Rattle.sets.specs.Sets.{member}
 use Rattle.sets.proofs.ix_set.IxSet.insert.Goals as goal
 
-pub overflow-add-self : goal.overflow-add-self
-overflow-add-self g c =
+pub overflow_add-self : goal.overflow_add-self
+overflow_add-self g c =
     let s = c.args.self.now in
     let ws = vec_items s.words in
     let n = c.index-n.result in
@@ -19,8 +19,8 @@ overflow-add-self g c =
     let few = s.few in
     omega (arith, s.counted, count_room (has ws) n s.nodes (omega arith) free)
 
-pub invariant-of-self : goal.invariant-of-self
-invariant-of-self g c =
+pub invariant_of-self : goal.invariant_of-self
+invariant_of-self g c =
     let s = c.args.self.now in
     let ws = vec_items s.words in
     let n = c.index-n.result in

@@ -7,16 +7,16 @@ use Rattle.bits.proofs.Counts.{count_le}
 use Rattle.bits.proofs.Rows.{stored_has, stored_below, stored_count, word_room}
 use Rattle.sets.proofs.ix_set.IxSet.put_word.Goals as goal
 
-pub overflow-sub-self-2 : goal.overflow-sub-self-2
-overflow-sub-self-2 g c =
+pub overflow_sub-self-2 : goal.overflow_sub-self-2
+overflow_sub-self-2 g c =
     let s = c.args.self.now in
     let ws = vec_items s.words in
     let old = c.index-old.result.now in
     let l : c.args.i < length ws = omega (arith, s.words.ok.0, c.len.ensures) in
-    word_room ws c.args.i s.nodes old s.count (get_or_read ws c.args.i old l c.index-old.ensures 0) c.type-inv.old.fits s.within s.counted
+    word_room ws c.args.i s.nodes old s.count (get_or_read ws c.args.i old l c.index-old.ensures 0) c.type_inv.old.fits s.within s.counted
 
-pub overflow-add-self : goal.overflow-add-self
-overflow-add-self g c =
+pub overflow_add-self : goal.overflow_add-self
+overflow_add-self g c =
     let s = c.args.self.now in
     let ws = vec_items s.words in
     let i = c.args.i in
@@ -24,13 +24,13 @@ overflow-add-self g c =
     let m = c.low_bits.result in
     let l : i < length ws = omega (arith, s.words.ok.0, c.len.ensures) in
     let counted =
-    stored_count ws i c.args.w m s.nodes l c.low_bits.type-inv c.low_bits.ensures old s.count (get_or_read ws i old l c.index-old.ensures 0) c.type-inv.old.fits s.within s.counted in
+    stored_count ws i c.args.w m s.nodes l c.low_bits.type_inv c.low_bits.ensures old s.count (get_or_read ws i old l c.index-old.ensures 0) c.type_inv.old.fits s.within s.counted in
     let most = count_le (has (set ws i (bit_and c.args.w m))) s.nodes in
     let few = s.few in
     omega arith
 
-pub invariant-of-self : goal.invariant-of-self
-invariant-of-self g c =
+pub invariant_of-self : goal.invariant_of-self
+invariant_of-self g c =
     let s = c.args.self.now in
     let ws = vec_items s.words in
     let i = c.args.i in
@@ -41,9 +41,9 @@ invariant-of-self g c =
       (
         s.long,
         (
-          stored_below ws i c.args.w m s.nodes l c.low_bits.type-inv c.low_bits.ensures s.within,
+          stored_below ws i c.args.w m s.nodes l c.low_bits.type_inv c.low_bits.ensures s.within,
           (
-            stored_count ws i c.args.w m s.nodes l c.low_bits.type-inv c.low_bits.ensures old s.count (get_or_read ws i old l c.index-old.ensures 0) c.type-inv.old.fits s.within s.counted,
+            stored_count ws i c.args.w m s.nodes l c.low_bits.type_inv c.low_bits.ensures old s.count (get_or_read ws i old l c.index-old.ensures 0) c.type_inv.old.fits s.within s.counted,
             tt,
           ),
         ),
@@ -56,5 +56,5 @@ returns g c =
     let l : c.args.i < length (vec_items s.words) = omega (arith, s.words.ok.0, c.len.ensures) in
     record {
       nodes = refl;
-      members = stored_has (vec_items s.words) c.args.i c.args.w c.low_bits.result s.nodes l c.low_bits.type-inv c.low_bits.ensures;
+      members = stored_has (vec_items s.words) c.args.i c.args.w c.low_bits.result s.nodes l c.low_bits.type_inv c.low_bits.ensures;
     }

@@ -4,11 +4,11 @@ use Rattle.std.proofs.lemmas.List.Elements.{same_from_all_zip}
 use Rattle.bits.specs.Bits.{has, how_many}
 use Rattle.sets.proofs.make.IxSetClone.clone.Goals as goal
 
-pub invariant-of-result : goal.invariant-of-result
-invariant-of-result g c =
+pub invariant_of-result : goal.invariant_of-result
+invariant_of-result g c =
     let s = c.args.self.now in
-    let made = c.in-ok-words.ensures.cases in
-    let same : vec_items c.in-ok-words.words ≡ vec_items s.words = same_from_all_zip _ (vec_items s.words) (vec_items c.in-ok-words.words) made.0 (λ x y e. e) in (
+    let made = c.in_ok-words.ensures.cases in
+    let same : vec_items c.in_ok-words.words ≡ vec_items s.words = same_from_all_zip _ (vec_items s.words) (vec_items c.in_ok-words.words) made.0 (λ x y e. e) in (
       s.few,
       (
         made.1 ∙ s.long,
@@ -25,6 +25,6 @@ invariant-of-result g c =
 pub returns : goal.returns
 returns g c =
     let s = c.args.self.now in
-    let made = c.in-ok-words.ensures.cases in
-    let same : vec_items c.in-ok-words.words ≡ vec_items s.words = same_from_all_zip _ (vec_items s.words) (vec_items c.in-ok-words.words) made.0 (λ x y e. e) in
+    let made = c.in_ok-words.ensures.cases in
+    let same : vec_items c.in_ok-words.words ≡ vec_items s.words = same_from_all_zip _ (vec_items s.words) (vec_items c.in_ok-words.words) made.0 (λ x y e. e) in
     record { cases = (refl, λ n. ap (λ ws. has ws n) same) }

@@ -7,12 +7,12 @@ use Rattle.weak.proofs.table.WeakDependencies.find.Goals as goal
 
 pub loop-link-init : goal.loop-link-init
 loop-link-init c =
-    let w = c.args.self.now in search_begins w.count w.package_edges w.heads w.nexts (whole w.hashed) c.args.package-edge
+    let w = c.args.self.now in search_begins w.count w.package_edges w.heads w.nexts (whole w.hashed) c.args.package_edge
 
 pub returns-then-self-i : goal.returns-then-self-i
 returns-then-self-i c =
     let w = c.args.self.now in
-    sym (ap (option_map weak_index) (search_finds w.count w.package_edges w.heads w.nexts (whole w.hashed) c.args.package-edge w.release_nodes c.loop-link.link (omega arith) c.loop-link.invariant c.if-self-i.true))
+    sym (ap (option_map weak_index) (search_finds w.count w.package_edges w.heads w.nexts (whole w.hashed) c.args.package_edge w.release_nodes c.loop-link.link (omega arith) c.loop-link.invariant c.if-self-i.true))
 
 pub loop-link-smaller : goal.loop-link-smaller
 loop-link-smaller c =
@@ -26,10 +26,10 @@ loop-link-smaller c =
 pub loop-link-preserved : goal.loop-link-preserved
 loop-link-preserved c =
     let w = c.args.self.now in
-    search_goes w.count w.package_edges w.heads w.nexts (whole w.hashed) c.args.package-edge c.loop-link.link (omega arith) c.loop-link.invariant c.if-self-i.false
+    search_goes w.count w.package_edges w.heads w.nexts (whole w.hashed) c.args.package_edge c.loop-link.link (omega arith) c.loop-link.invariant c.if-self-i.false
 
 pub returns : goal.returns
 returns c =
     let w = c.args.self.now in
     let end : c.loop-link.link ≡ 0 = omega arith in
-    sym (ap (option_map weak_index) (search_ends w.count w.package_edges w.heads w.nexts (whole w.hashed) c.args.package-edge w.release_nodes (subst (Passed w.count w.package_edges c.args.package-edge) end c.loop-link.invariant)))
+    sym (ap (option_map weak_index) (search_ends w.count w.package_edges w.heads w.nexts (whole w.hashed) c.args.package_edge w.release_nodes (subst (Passed w.count w.package_edges c.args.package_edge) end c.loop-link.invariant)))

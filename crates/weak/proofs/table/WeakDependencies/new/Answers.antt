@@ -3,5 +3,5 @@ use Rattle.std.proofs.Common.{replicate, refl, arith}
 use Rattle.weak.proofs.Hashing.{empty_hashed}
 use Rattle.weak.proofs.table.WeakDependencies.new.Goals as goal
 
-pub invariant-of-result : goal.invariant-of-result
-invariant-of-result c = ((refl, refl, refl, refl), (omega arith, (∣ empty_hashed (replicate 1024 0) (replicate 1024 0) ∣₁, tt)))
+pub invariant_of-result : goal.invariant_of-result
+invariant_of-result c = ((refl, refl, refl, refl), (omega arith, (∣ empty_hashed (replicate 1024 0) (replicate 1024 0) ∣₁, tt)))
