@@ -17,10 +17,11 @@ invariant_of-self g c =
     let ch = laid_chains d.raw.words.now vs d.raw.nodes d.raw.edges _ _ _ l (omega arith) (omega arith) (whole d.chains) in
     let p = c.lay.ensures.nodes in
     let q = c.lay.ensures.edges in
-    let long = l.long in (
-      (omega arith, omega arith, omega arith),
-      (∣ subst (λ n. Chains vs n c.lay.new.self.edges) (sym p) (subst (λ k. Chains vs d.raw.nodes k) (sym q) ch) ∣₁, tt),
-    )
+    let long = l.long in
+    record {
+      room = (omega arith, omega arith, omega arith);
+      chains = ∣ subst (λ n. Chains vs n c.lay.new.self.edges) (sym p) (subst (λ k. Chains vs d.raw.nodes k) (sym q) ch) ∣₁;
+    }
 
 pub returns : goal.returns
 returns g c =

@@ -4,4 +4,4 @@ use Rattle.draft.proofs.Laying.{clear_chains}
 use Rattle.draft.proofs.draft.Draft.new.Goals as goal
 
 pub invariant_of-result : goal.invariant_of-result
-invariant_of-result g c = ((omega arith, omega arith, omega arith), (∣ clear_chains c.args.words.now 0 (λ k b. absurd (omega arith)) ∣₁, tt))
+invariant_of-result g c = record { room = (omega arith, omega arith, omega arith); chains = ∣ clear_chains c.args.words.now 0 (λ k b. absurd (omega arith)) ∣₁ }

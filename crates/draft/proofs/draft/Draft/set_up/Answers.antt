@@ -10,7 +10,8 @@ invariant_of-self g c =
     let k = c.clear.ensures in
     let p = k.nodes in
     let q = k.edges in
-    let long = k.long in (
-      (omega arith, omega arith, omega arith),
-      (∣ subst (λ n. Chains vs n c.clear.new.self.edges) (sym p) (subst (λ e. Chains vs c.args.nodes e) (sym q) (clear_chains vs c.args.nodes k.zero)) ∣₁, tt),
-    )
+    let long = k.long in
+    record {
+      room = (omega arith, omega arith, omega arith);
+      chains = ∣ subst (λ n. Chains vs n c.clear.new.self.edges) (sym p) (subst (λ e. Chains vs c.args.nodes e) (sym q) (clear_chains vs c.args.nodes k.zero)) ∣₁;
+    }

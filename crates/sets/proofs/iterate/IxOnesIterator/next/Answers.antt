@@ -51,7 +51,7 @@ pub overflow_sub-self : goal.overflow_sub-self
 overflow_sub-self g c = (it c.args.self.now c.loop-bits.row c.loop-bits.bits c.loop-bits.invariant c.loop-bits-test.false).some
 
 pub invariant_of-self : goal.invariant_of-self
-invariant_of-self g c = let h = it c.args.self.now c.loop-bits.row c.loop-bits.bits c.loop-bits.invariant c.loop-bits-test.false in (h.within, (h.counted, tt))
+invariant_of-self g c = let h = it c.args.self.now c.loop-bits.row c.loop-bits.bits c.loop-bits.invariant c.loop-bits-test.false in record { within = h.within; counted = h.counted }
 
 pub overflow_cast-row : goal.overflow_cast-row
 overflow_cast-row g c = omega (arith, (it c.args.self.now c.loop-bits.row c.loop-bits.bits c.loop-bits.invariant c.loop-bits-test.false).node, c.args.self.now.set.now.few)

@@ -12,7 +12,12 @@ pub invariant_of-result : goal.invariant_of-result
 invariant_of-result g c =
     let ws = vec_items c.in_ok-words.words in
     let none : (n : ℕ) → has ws n ≡ false = zeros ws ((c.args.nodes + 63) / 64) (c.in_ok-words.ensures.items-if-clones-equal (λ y e. e)) in
-    (c.ranges.nodes.fits, (c.in_ok-words.ensures.len, ((λ n l. none n), (sym (count_none (has ws) c.args.nodes none), tt))))
+    record {
+      few = c.ranges.nodes.fits;
+      long = c.in_ok-words.ensures.len;
+      within = λ n l. none n;
+      counted = sym (count_none (has ws) c.args.nodes none);
+    }
 
 pub returns : goal.returns
 returns g c = (refl, zeros (vec_items c.in_ok-words.words) ((c.args.nodes + 63) / 64) (c.in_ok-words.ensures.items-if-clones-equal (λ y e. e)))

@@ -28,19 +28,13 @@ invariant_of-self g c =
     let l : n / 64 < length ws = omega (arith, s.words.ok.0, s.long) in
     let was = get_or_read ws (n / 64) word l c.index-word.ensures 0 in
     let lone = one_shl (n % 64) 64 (omega arith) in
-    let free : has ws n ≡ false = ap (has ws) c.index-n.ensures ∙ sym c.contains.ensures ∙ c.if-contains.false in (
-      s.few,
-      (
-        s.long,
-        (
-          put_below ws n word _ l was lone s.nodes (omega arith) s.within,
-          (
-            ap (λ k. k + 1) s.counted ∙ sym (put_count ws n word _ l was lone s.nodes (omega arith) free),
-            tt,
-          ),
-        ),
-      ),
-    )
+    let free : has ws n ≡ false = ap (has ws) c.index-n.ensures ∙ sym c.contains.ensures ∙ c.if-contains.false in
+    record {
+      few = s.few;
+      long = s.long;
+      within = put_below ws n word _ l was lone s.nodes (omega arith) s.within;
+      counted = ap (λ k. k + 1) s.counted ∙ sym (put_count ws n word _ l was lone s.nodes (omega arith) free);
+    }
 
 pub returns : goal.returns
 returns g c =

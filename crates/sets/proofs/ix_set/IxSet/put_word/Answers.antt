@@ -36,19 +36,13 @@ invariant_of-self g c =
     let i = c.args.i in
     let old = c.index-old.result.now in
     let m = c.low_bits.result in
-    let l : i < length ws = omega (arith, s.words.ok.0, c.len.ensures) in (
-      s.few,
-      (
-        s.long,
-        (
-          stored_below ws i c.args.w m s.nodes l c.low_bits.type_inv c.low_bits.ensures s.within,
-          (
-            stored_count ws i c.args.w m s.nodes l c.low_bits.type_inv c.low_bits.ensures old s.count (get_or_read ws i old l c.index-old.ensures 0) c.type_inv.old.fits s.within s.counted,
-            tt,
-          ),
-        ),
-      ),
-    )
+    let l : i < length ws = omega (arith, s.words.ok.0, c.len.ensures) in
+    record {
+      few = s.few;
+      long = s.long;
+      within = stored_below ws i c.args.w m s.nodes l c.low_bits.type_inv c.low_bits.ensures s.within;
+      counted = stored_count ws i c.args.w m s.nodes l c.low_bits.type_inv c.low_bits.ensures old s.count (get_or_read ws i old l c.index-old.ensures 0) c.type_inv.old.fits s.within s.counted;
+    }
 
 pub returns : goal.returns
 returns g c =

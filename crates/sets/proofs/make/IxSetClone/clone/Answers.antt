@@ -8,19 +8,13 @@ pub invariant_of-result : goal.invariant_of-result
 invariant_of-result g c =
     let s = c.args.self.now in
     let made = c.in_ok-words.ensures.cases in
-    let same : vec_items c.in_ok-words.words ≡ vec_items s.words = same_from_all_zip _ (vec_items s.words) (vec_items c.in_ok-words.words) made.0 (λ x y e. e) in (
-      s.few,
-      (
-        made.1 ∙ s.long,
-        (
-          (λ n l. ap (λ ws. has ws n) same ∙ s.within n l),
-          (
-            s.counted ∙ sym (ap (λ ws. how_many (has ws) s.nodes) same),
-            tt,
-          ),
-        ),
-      ),
-    )
+    let same : vec_items c.in_ok-words.words ≡ vec_items s.words = same_from_all_zip _ (vec_items s.words) (vec_items c.in_ok-words.words) made.0 (λ x y e. e) in
+    record {
+      few = s.few;
+      long = made.1 ∙ s.long;
+      within = λ n l. ap (λ ws. has ws n) same ∙ s.within n l;
+      counted = s.counted ∙ sym (ap (λ ws. how_many (has ws) s.nodes) same);
+    }
 
 pub returns : goal.returns
 returns g c =

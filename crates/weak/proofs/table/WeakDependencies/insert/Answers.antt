@@ -25,10 +25,12 @@ invariant_of-self c =
     let s3 = s.3 in
     let low : p % 1024 < 1024 = omega arith in
     let unknown = not_placed _ c.in_default.ensures in
-    let fresh = none_placed (pair_at w.package_edges w.release_nodes) w.count p unknown in (
-      (simp length-set s.0, simp length-set s.1, simp length-set s.2, simp length-set s.3),
-      (omega arith, (∣ hashed_more w.count w.package_edges w.heads w.nexts (whole w.hashed) p (omega arith) (omega arith) (omega arith) fresh ∣₁, tt)),
-    )
+    let fresh = none_placed (pair_at w.package_edges w.release_nodes) w.count p unknown in
+    record {
+      sizes = (simp length-set s.0, simp length-set s.1, simp length-set s.2, simp length-set s.3);
+      few = omega arith;
+      hashed = ∣ hashed_more w.count w.package_edges w.heads w.nexts (whole w.hashed) p (omega arith) (omega arith) (omega arith) fresh ∣₁;
+    }
 
 pub returns : goal.returns
 returns c =

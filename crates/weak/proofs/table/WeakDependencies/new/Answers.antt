@@ -4,4 +4,4 @@ use Rattle.weak.proofs.Hashing.{empty_hashed}
 use Rattle.weak.proofs.table.WeakDependencies.new.Goals as goal
 
 pub invariant_of-result : goal.invariant_of-result
-invariant_of-result c = ((refl, refl, refl, refl), (omega arith, (∣ empty_hashed (replicate 1024 0) (replicate 1024 0) ∣₁, tt)))
+invariant_of-result c = record { sizes = (refl, refl, refl, refl); few = omega arith; hashed = ∣ empty_hashed (replicate 1024 0) (replicate 1024 0) ∣₁ }
