@@ -31,16 +31,16 @@ returns g c =
     let q = c.lay.ensures.edges in
     let ws = d.raw.words.now in
     let vs = c.lay.new.self.words.now in
-    let held = g.Edge.EdgeRecord.held in
-    let registered : unregistered (length (pairs d.weak)) (g.Edge.EdgeRecord.weak c.args.weight) ≡ false =
+    let held = g.S.Edge.EdgeRecord.held in
+    let registered : unregistered (length (pairs d.weak)) (g.S.Edge.EdgeRecord.weak c.args.weight) ≡ false =
     elim c.match-weak_index.branch [
       | in-Some+else-index-len w ↦
           ap (unregistered (length (pairs d.weak))) (sym w.in-Some.ensures) ∙ lt-leb (length (pairs d.weak)) w.in-Some.index.0 (let n = w.len.ensures in let b = w.if-index-len.false in omega arith)
       | in_default w ↦ ap (unregistered (length (pairs d.weak))) (sym w.in_default.ensures)
     ] in
     let four : length c.encode.result ≡ 4 = omega arith in
-    taken held (g.Edge.EdgeRecord.weak c.args.weight) (state_of d.raw d.weak) _ _ c.args.weight _ (state_of c.lay.new.self d.weak)
-    (edge_fits (state_of d.raw d.weak) _ _ (g.Edge.EdgeRecord.weak c.args.weight) (omega arith) (omega arith) registered (omega arith) (omega arith)) (
+    taken held (g.S.Edge.EdgeRecord.weak c.args.weight) (state_of d.raw d.weak) _ _ c.args.weight _ (state_of c.lay.new.self d.weak)
+    (edge_fits (state_of d.raw d.weak) _ _ (g.S.Edge.EdgeRecord.weak c.args.weight) (omega arith) (omega arith) registered (omega arith) (omega arith)) (
       refl,
       record {
         laid =

@@ -9,7 +9,7 @@ use Rattle.draft.proofs.finished.FinishedGraphBothWays.incoming.Goals as goal
 pub returns-then-n-self : goal.returns-then-n-self
 returns-then-n-self g c =
     let s = c.args.self.now in
-    let held = g.Edge.EdgeRecord.held in
+    let held = g.S.Edge.EdgeRecord.held in
     let k = whole s.chains in
     record {
       list =
@@ -21,7 +21,7 @@ returns-then-n-self g c =
 pub returns : goal.returns
 returns g c =
     let s = c.args.self.now in
-    let held = g.Edge.EdgeRecord.held in
+    let held = g.S.Edge.EdgeRecord.held in
     let k = whole s.chains in
     record {
       list =

@@ -5,4 +5,4 @@ use Rattle.draft.proofs.finished.FinishedGraphBothWays.tied.Goals as goal
 
 pub returns : goal.returns
 returns g c =
-    let s = c.args.self.now in table_tied g.Edge.EdgeRecord.held s.words.now s.nodes s.edges (whole s.chains)
+    let s = c.args.self.now in table_tied g.S.Edge.EdgeRecord.held s.words.now s.nodes s.edges (whole s.chains)

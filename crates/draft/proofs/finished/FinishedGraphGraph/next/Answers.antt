@@ -11,7 +11,7 @@ use Rattle.draft.proofs.finished.FinishedGraphGraph.next.Goals as goal
 pub returns : goal.returns
 returns g c =
     let s = c.args.self.now in
-    let held = g.Edge.EdgeRecord.held in
+    let held = g.S.Edge.EdgeRecord.held in
     let a = c.args.c.now.link in
     let pos : 0 < a = omega arith in
     let top : a ≤ s.edges = omega arith in

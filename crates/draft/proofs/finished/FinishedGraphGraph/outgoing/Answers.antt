@@ -9,13 +9,13 @@ use Rattle.draft.proofs.finished.FinishedGraphGraph.outgoing.Goals as goal
 pub returns-then-n-self : goal.returns-then-n-self
 returns-then-n-self g c =
     let s = c.args.self.now in
-    let held = g.Edge.EdgeRecord.held in
+    let held = g.S.Edge.EdgeRecord.held in
     out_none held s.words.now s.nodes s.edges (whole s.chains) _ (omega arith)
     ∙ ap (λ n. filter (leaves n) (laid held s.words.now s.nodes s.edges)) c.index-n.ensures
 
 pub returns : goal.returns
 returns g c =
     let s = c.args.self.now in
-    let held = g.Edge.EdgeRecord.held in
+    let held = g.S.Edge.EdgeRecord.held in
     out_head held s.words.now s.nodes s.edges (whole s.chains) _ (omega arith)
     ∙ ap (λ n. filter (leaves n) (laid held s.words.now s.nodes s.edges)) c.index-n.ensures

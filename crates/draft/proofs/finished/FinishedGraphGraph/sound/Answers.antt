@@ -6,4 +6,4 @@ use Rattle.draft.proofs.finished.FinishedGraphGraph.sound.Goals as goal
 pub returns : goal.returns
 returns g c =
     let s = c.args.self.now in
-    table_sound g.Edge.EdgeRecord.held s.words.now s.nodes s.edges (whole s.chains) s.room.0 s.room.1
+    table_sound g.S.Edge.EdgeRecord.held s.words.now s.nodes s.edges (whole s.chains) s.room.0 s.room.1

@@ -11,7 +11,7 @@ zeros ws m e n = ap (λ xs. has xs n) e ∙ has_zeros m n
 pub invariant_of-result : goal.invariant_of-result
 invariant_of-result g c =
     let ws = vec_items c.in_ok-words.words in
-    let none : (n : ℕ) → has ws n ≡ false = zeros ws ((c.args.nodes + 63) / 64) (c.in_ok-words.ensures.items-if-clones-equal (λ y e. e)) in
+    let none : (n : ℕ) → has ws n ≡ false = zeros ws ((c.args.nodes + 63) / 64) (c.in_ok-words.ensures.items_if_clones_equal (λ y e. e)) in
     record {
       few = c.ranges.nodes.fits;
       long = c.in_ok-words.ensures.len;
@@ -20,4 +20,4 @@ invariant_of-result g c =
     }
 
 pub returns : goal.returns
-returns g c = (refl, zeros (vec_items c.in_ok-words.words) ((c.args.nodes + 63) / 64) (c.in_ok-words.ensures.items-if-clones-equal (λ y e. e)))
+returns g c = (refl, zeros (vec_items c.in_ok-words.words) ((c.args.nodes + 63) / 64) (c.in_ok-words.ensures.items_if_clones_equal (λ y e. e)))
