@@ -6,7 +6,7 @@ use graph::graph::Graph;
 
 // The numbers of the first two edges that leave n.
 pub fn first_two<G: Graph>(graph: &G, n: G::Ix) -> (Option<u32>, Option<u32>)
-    ensures { result ≡ first_two (outs graph.now (G.Ix.IndexType.number n)) }
+    ensures { result ≡ first_two (G.outs graph.now (G.Ix.IndexType.number n)) }
 {
     let mut c = graph.outgoing(n);
     let Some(first) = graph.next(&mut c) else {
