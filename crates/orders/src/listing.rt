@@ -39,7 +39,7 @@ fn write_edges<G: Graph>(
     graph: &G,
     start: G::Cursor,
 ) -> Result<(), AllocError>
-    ensures { Writes result out.old.items (edges_text (rest graph.now start)) out.new.items }
+    ensures { Writes result out.old.items (edges_text (G.rest graph.now start)) out.new.items }
 {
     let mut c = start;
     while let Some(edge) = graph.next(&mut c) {
@@ -56,8 +56,8 @@ fn write_edges<G: Graph>(
 
 // How many edges a cursor has still to give.
 fn count<G: Graph>(graph: &G, start: G::Cursor) -> usize
-    requires { length (rest graph.now start) < 2 ^ 64 }
-    ensures { result ≡ length (rest graph.now start) }
+    requires { length (G.rest graph.now start) < 2 ^ 64 }
+    ensures { result ≡ length (G.rest graph.now start) }
 {
     let mut c = start;
     let mut k = 0;
@@ -75,8 +75,8 @@ fn write_list<G: Graph>(
     graph: &G,
     start: G::Cursor,
 ) -> Result<(), AllocError>
-    requires { length (rest graph.now start) < 2 ^ 64 }
-    ensures { Writes result out.old.items (list_text name.now node (rest graph.now start)) out.new.items }
+    requires { length (G.rest graph.now start) < 2 ^ 64 }
+    ensures { Writes result out.old.items (list_text name.now node (G.rest graph.now start)) out.new.items }
 {
     let k = count(graph, start);
     write_head(out, heap, name, node, k)?;
@@ -90,7 +90,7 @@ pub fn write_out<G: Graph>(
     graph: &G,
     node: u32,
 ) -> Result<(), AllocError>
-    ensures { Writes result out.old.items (list_text (codes "out") node (outs graph.now node)) out.new.items }
+    ensures { Writes result out.old.items (list_text (codes "out") node (G.outs graph.now node)) out.new.items }
 {
     graph.sound();
     let start = graph.outgoing(G::Ix::new(node));
@@ -104,7 +104,7 @@ pub fn write_into<G: BothWays>(
     graph: &G,
     node: u32,
 ) -> Result<(), AllocError>
-    ensures { Writes result out.old.items (list_text (codes "into") node (ins graph.now node)) out.new.items }
+    ensures { Writes result out.old.items (list_text (codes "into") node (G.ins graph.now node)) out.new.items }
 {
     graph.sound();
     let start = graph.incoming(G::Ix::new(node));

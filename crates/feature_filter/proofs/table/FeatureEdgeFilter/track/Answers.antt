@@ -9,7 +9,7 @@ arrives-later-requires g c =
     let s' = c.judges-now.new.self in
     let R = c.judges-now.ensures.rest in
     record {
-      weak = (c.in-Weak.required, c.requires.own_val ∙ ap Some c.in-Weak.is);
+      weak = (c.in-Weak.required, c.requires.own ∙ ap Some c.in-Weak.is);
       okay =
           subst (λ v. Okay v s'.states s'.used c.args.hold.now) (sym R.0)
           (subst (λ v. Okay s.nodes.now v s'.used c.args.hold.now) (sym R.1.1.0)

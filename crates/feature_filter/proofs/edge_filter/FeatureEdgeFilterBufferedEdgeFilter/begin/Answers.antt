@@ -2,7 +2,7 @@
 use Rattle.std.proofs.Common.{◌≡◌, ◌<◌, length, sym, refl, ap, ◌∙◌, subst, arith}
 use Rattle.buffers.specs.Rules.{feature_rule}
 use Rattle.buffers.proofs.Beginning.{Blank, blank_more, blank_told, blank_okay}
-use Rattle.feature_filter.proofs.filter.FeatureEdgeFilterBufferedEdgeFilter.begin.Goals as goal
+use Rattle.feature_filter.proofs.edge_filter.FeatureEdgeFilterBufferedEdgeFilter.begin.Goals as goal
 
 pub loop-i-preserved : goal.loop-i-preserved
 loop-i-preserved g c =

@@ -1,7 +1,7 @@
 -- The indexes below i are buffered and have no edge; nothing else changed.
 use Rattle.std.proofs.Common.{◌≡◌}
 use Rattle.buffers.proofs.Beginning.{Blank}
-use Rattle.feature_filter.proofs.filter.FeatureEdgeFilterBufferedEdgeFilter.begin.Given as goal
+use Rattle.feature_filter.proofs.edge_filter.FeatureEdgeFilterBufferedEdgeFilter.begin.Given as goal
 
 abbrev pub invariant-loop-i : goal.invariant-loop-i
 invariant-loop-i g l =

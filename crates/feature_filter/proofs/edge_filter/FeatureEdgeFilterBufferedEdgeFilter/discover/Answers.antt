@@ -2,7 +2,7 @@
 use Rattle.std.proofs.Common.{◌≡◌, refl, arith}
 use Rattle.buffers.specs.Rules.{feature_rule}
 use Rattle.buffers.proofs.Telling.{back_none, ahead}
-use Rattle.feature_filter.proofs.filter.FeatureEdgeFilterBufferedEdgeFilter.discover.Goals as goal
+use Rattle.feature_filter.proofs.edge_filter.FeatureEdgeFilterBufferedEdgeFilter.discover.Goals as goal
 
 pub returns-in-Forward : goal.returns-in-Forward
 returns-in-Forward g c =
