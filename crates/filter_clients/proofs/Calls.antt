@@ -8,6 +8,7 @@ use Rattle.index.specs.declared.direction.DependencyDirection.TheVariants.{Forwa
 use Rattle.index.specs.declared.links.Link.{Link}
 use Rattle.index.specs.declared.records.FeatureEdge.{FeatureEdge}
 use Rattle.index.specs.declared.records.FeatureEdge.TheVariants.{NamedFeature, DependenciesSection, WeakSlash}
+use Rattle.bits.specs.Bits.{bit}
 use Rattle.verdict.specs.Verdicts.{shares}
 use Rattle.filter.specs.Filters.{Untold, Discovers}
 use Rattle.buffers.specs.Rules.{feature_rule, goes_out}
@@ -25,6 +26,7 @@ abbrev edge : ℕ → ℕ → ℕ → FeatureEdge → Edge FeatureEdge
 edge s t n w = record { source = s; target = t; number = n; weight = w }
 
 pub by_section : (r : Rule (Edge FeatureEdge)) (told : ℕ → Bool) (held : List (Edge FeatureEdge)) (e : Edge FeatureEdge) → r ≡ rule → e.weight ≡ DependenciesSection 1 → (hands r told e ≡ true) × (holds r told held e ≡ held)
+unfolding bit
 by_section r told held e q w = (
   (λ j. hands (q j) told (edge e.source e.target e.number (w j))),
   (λ j. holds (q j) told held (edge e.source e.target e.number (w j))),
@@ -38,9 +40,11 @@ by_name r told held e q w = (
 
 -- the slash waits on node 2
 waits_slash : (r : Rule (Edge FeatureEdge)) (e : Edge FeatureEdge) → r ≡ rule → e.weight ≡ slash → r.waits e ≡ Some 2
+unfolding bit
 waits_slash r e q w = λ j. (q j).waits (edge e.source e.target e.number (w j))
 
 pub by_slash : (r : Rule (Edge FeatureEdge)) (told : ℕ → Bool) (held : List (Edge FeatureEdge)) (e : Edge FeatureEdge) → r ≡ rule → e.weight ≡ slash → told 2 ≡ false → (hands r told e ≡ false) × (holds r told held e ≡ held ++ e ∷ [])
+unfolding bit
 by_slash r told held e q w untold = (
   (λ j. hands (q j) told (edge e.source e.target e.number (w j))) ∙ untold,
   ap (held_for told held e) (waits_slash r e q w) ∙ ap (λ b. cond b held (held ++ e ∷ [])) untold,
@@ -57,6 +61,7 @@ module _ (r : Rule (Edge FeatureEdge)) (q : r ≡ rule) (n : ℕ) (told told' : 
 
   -- node 2 told while the slash is held
   pub tells_slash : (e : Edge FeatureEdge) → n ≡ 2 → held ≡ e ∷ [] → e.weight ≡ slash → out ≡ e ∷ []
+  unfolding bit
   tells_slash e two h w =
       d.order ∙ (λ j. (q j).frees (two j) (h j)) ∙ ap (λ b. cond b (e ∷ []) []) (λ j. goes_out (λ (link : Link). shares 1 link.mask) 0 (edge e.source e.target e.number (w j)))
 

@@ -11,7 +11,7 @@ pub filter-requires : goal.filter-requires
 filter-requires g c =
     let inv = c.loop-edge.invariant in
     let all = ap length c.outgoing-list.ensures in
-    let few = few_out c.sound.ensures (g.Ix.IndexType.number c.args.node) in
+    let few = few_out c.sound.ensures (g.G.Ix.IndexType.number c.args.node) in
     let bound = c.edge_bound.ensures in
     let enough : length (g.G.Graph.rest c.args.graph.now c.outgoing-list.result) ≤ length c.loop-edge.hold =
     omega (arith, all, few, bound, c.if-hold-edge_bound.false, c.loop-edge.auto.hold, c.discover.auto.hold) in
@@ -23,7 +23,7 @@ overflow_add-count g c =
     let s = c.discover.new.self in
     let inv = c.loop-edge.invariant in
     let all = ap length c.outgoing-list.ensures in
-    let few = few_out c.sound.ensures (g.Ix.IndexType.number c.args.node) in
+    let few = few_out c.sound.ensures (g.G.Ix.IndexType.number c.args.node) in
     let kept = kept_few (hands (f.rule s) (f.told s)) (g.G.Graph.rest c.args.graph.now c.outgoing-list.result) in
     let low : c.loop-edge.count < 65536 = omega (arith, all, few, kept, inv.4, c.sound.ensures.few_edges) in
     search rules
@@ -31,7 +31,7 @@ overflow_add-count g c =
 pub returns : goal.returns
 returns g c =
     let f = g.F.BufferedEdgeFilter in
-    let n = g.Ix.IndexType.number c.args.node in
+    let n = g.G.Ix.IndexType.number c.args.node in
     let B = c.begin.ensures in
     let D = c.discover.ensures in
     let s = c.discover.new.self in

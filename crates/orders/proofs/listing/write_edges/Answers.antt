@@ -10,10 +10,10 @@ loop-edge-preserved g c =
     let left = g.G.Graph.rest c.args.graph.now in
     let l = c.loop-edge in
     let e = c.in-Some.edge in
-    let q : left l.c ≡ meant g.Ix.IndexType.number e ∷ left c.next.new.c = step_some _ _ _ c.in-Some.ensures in
+    let q : left l.c ≡ meant g.G.Ix.IndexType.number e ∷ left c.next.new.c = step_some _ _ _ c.in-Some.ensures in
     let s = c.index.ensures in
     let t = c.index-in-Some.ensures in
-    let text : edge_text c.index.result c.index-in-Some.result e.number ≡ edge_text (g.Ix.IndexType.number e.source) (g.Ix.IndexType.number e.target) e.number = cc in
+    let text : edge_text c.index.result c.index-in-Some.result e.number ≡ edge_text (g.G.Ix.IndexType.number e.source) (g.G.Ix.IndexType.number e.target) e.number = cc in
     let w = c.in_ok-write_edge.ensures in
     ap (λ xs. xs ++ edges_text (left c.next.new.c)) (w ∙ ap (λ xs. vec_items l.out ++ xs) text)
     ∙ append_assoc (vec_items l.out) _ (edges_text (left c.next.new.c))

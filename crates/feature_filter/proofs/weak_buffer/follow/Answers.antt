@@ -3,7 +3,7 @@ use Rattle.std.proofs.Common.{◌≡◌, ◌-◌, ◌<◌, length, get_or, sym, 
 use Rattle.buffers.specs.Rules.{links, wanted}
 use Rattle.buffers.specs.Buffers.{edge_of}
 use Rattle.buffers.proofs.Following.{nothing, following_start, following_end, place_ok, turned}
-use Rattle.feature_filter.proofs.weak.follow.Goals as goal
+use Rattle.feature_filter.proofs.weak_buffer.follow.Goals as goal
 
 pub loop-link-init : goal.loop-link-init
 loop-link-init g c = (refl, following_start _ _ _ _ _ _ c.args.hand.now c.requires.fits _ c.requires.linked.0)

@@ -1,7 +1,7 @@
 -- The entries before the link are dealt with.
 use Rattle.std.proofs.Common.{◌≡◌}
 use Rattle.buffers.proofs.Following.{Following, left_to}
-use Rattle.feature_filter.proofs.weak.follow.Given as goal
+use Rattle.feature_filter.proofs.weak_buffer.follow.Given as goal
 
 abbrev pub invariant-loop-link : goal.invariant-loop-link
 invariant-loop-link g l =
