@@ -10,7 +10,12 @@ trap 'rm -rf "$work"' EXIT
 needs="theory index graph weak draft"
 mkdir -p "$work/crates"
 for name in $needs; do
-    cp -r "$top/crates/$name" "$work/crates/$name"
+    mkdir "$work/crates/$name"
+    for part in src specs proofs; do
+        if [ -d "$top/crates/$name/$part" ]; then
+            cp -r "$top/crates/$name/$part" "$work/crates/$name/$part"
+        fi
+    done
     grep "^$name:" "$top/crates.txt" >> "$work/crates.txt"
 done
 
@@ -19,15 +24,12 @@ client() {
     mkdir -p "$work/crates/$1/src"
     echo "$1: $needs" >> "$work/crates.txt"
     cat > "$work/crates/$1/src/lib.rt" <<RT
+#![tactic(auto)]
+
 use draft::draft::Draft;
-use draft::finished::FinishedForward;
 use graph::graph::Graph;
 use index::records::PackageLink;
-use index::spec::IndexType;
-use index::spec::PackageGraphSpec;
-use index::spec::PackageIx;
-use index::spec::PackageIxIndex;
-use index::spec::PackageSpec;
+use index::spec::{IndexType, PackageGraphSpec, PackageIx};
 
 fn bound<G: Graph>(graph: &G) -> u32 {
     graph.node_bound()
@@ -48,7 +50,7 @@ client graph_of_draft 'bound(&draft)'
 
 # wants NAME PATTERN: checking NAME must say PATTERN
 wants() {
-    if (cd "$work" && rt dev "$1" > "$work/$1.log" 2>&1) && [ "$1" != rightly ]; then
+    if (cd "$work/crates/$1" && rt check > "$work/$1.log" 2>&1) && [ "$1" != rightly ]; then
         echo "misuse: $1 was accepted"
         exit 1
     fi
