@@ -1,14 +1,11 @@
 -- How many numbers below a count pass a test, and their list, ascending. Assumes nothing.
-use Rattle.std.proofs.Common.{◌≡◌, ℕ, zero, suc, ◌+◌, ◌-◌, ◌/◌, ◌%◌, ◌^◌, ◌<◌, ◌≤◌, Bool, true, false, cond, not, ◌&&◌, ◌||◌, eqb, ◌⊎◌, List, [], ◌∷◌, ◌++◌, length, filter, sym, refl, ap, ◌∙◌, ap₂, inl, inr, zero-le, add-zero, add_assoc, add-suc, pow-suc, zero-add, div-one, one-add, arith, length-append}
+use Rattle.std.proofs.Common.{◌≡◌, ℕ, zero, suc, ◌+◌, ◌/◌, ◌%◌, ◌^◌, ◌<◌, ◌≤◌, Bool, true, false, cond, not, ◌&&◌, ◌||◌, eqb, ◌⊎◌, [], ◌∷◌, ◌++◌, length, sym, refl, ap, ◌∙◌, ap₂, inl, inr, add-zero, add_assoc, add-suc, pow-suc, zero-add, one-add, arith, length-append}
 use mathlib.Core.Bool.{and-true, or-false}
 use native.Mathlib.Nat.{pow-zero}
 use lib.Count.{ones, ones_step}
 use Rattle.std.proofs.lemmas.Bool.{cases_eq, cases_lt, eq-eqb, ne_eqb, or_right}
-use Rattle.std.proofs.lemmas.List.{append-nil}
 use Rattle.std.proofs.lemmas.List.Elements.{filter-append}
-use Rattle.theory.specs.Edges.{In}
 use Rattle.theory.specs.PostOrder.{below}
-use Rattle.theory.specs.Listings.{Ascending}
 use Rattle.theory.proofs.Kept.{in_kept, kept_in}
 use Rattle.theory.proofs.Sweeping.{in_below}
 use Rattle.theory.proofs.Rooting.{ascending_below, ascending_kept}

@@ -1,6 +1,6 @@
 -- What a cursor along the words has still to give: as it begins, as it goes on to the next word, past the last word, and as it
 -- gives the lowest number of a word. Assumes nothing.
-use Rattle.std.proofs.Common.{◌≡◌, ℕ, suc, ◌+◌, ◌-◌, ◌*◌, ◌/◌, ◌%◌, ◌^◌, ◌<◌, ◌≤◌, Bool, true, false, cond, not, ◌&&◌, eqb, ltb, ◌⊎◌, ◌∷◌, length, sym, refl, ap, ◌∙◌, ap₂, inl, inr, arith}
+use Rattle.std.proofs.Common.{◌≡◌, ℕ, suc, ◌+◌, ◌-◌, ◌*◌, ◌/◌, ◌%◌, ◌^◌, ◌<◌, ◌≤◌, Bool, true, false, cond, not, ◌&&◌, eqb, ltb, ◌∷◌, length, sym, ap, ◌∙◌, ap₂, inl, inr, arith}
 use mathlib.Core.Bool.{and-true}
 use lib.Bits.{bit_xor}
 use lib.Count.{count_trailing_zeros}

@@ -1,6 +1,6 @@
 -- The binary digits of words: of `&`, `|` and `^`, of a lone bit and of the lowest bits; the lowest digit that is set; words of
 -- the same digits are equal. Assumes nothing.
-use Rattle.std.proofs.Common.{◌≡◌, ℕ, zero, suc, ◌+◌, ◌-◌, ◌*◌, ◌/◌, ◌%◌, ◌^◌, ◌<◌, ◌≤◌, Bool, true, false, not, ◌&&◌, ◌||◌, eqb, ltb, ◌⊎◌, sym, refl, ap, ◌∙◌, ap₂, inl, inr, one-mul, pow-suc, div-one, one-add, arith, pow_pos, pow_mono, pow-add, shr-shr}
+use Rattle.std.proofs.Common.{◌≡◌, ℕ, zero, suc, ◌+◌, ◌-◌, ◌/◌, ◌%◌, ◌^◌, ◌<◌, ◌≤◌, Bool, true, false, not, ◌&&◌, ◌||◌, eqb, ltb, ◌⊎◌, sym, refl, ap, ◌∙◌, inl, inr, one-mul, pow-suc, div-one, one-add, arith, pow_pos, pow_mono, pow-add, shr-shr}
 use native.Mathlib.Nat.{zero-div, div-eq_of_lt, pow-zero, mul-mod_left}
 use lib.Bits.{bit_and, bit_or, bit_xor, or_shr, and_shr, xor_shr, or_mod, and_mod, xor_mod, and_mask}
 use lib.Pow.{shl-shr, pow-lt}

@@ -8,7 +8,7 @@ use Rattle.std.proofs.lemmas.Nat.{and_le_r}
 use Rattle.std.proofs.lemmas.Bool.{eq-eqb, ne_eqb, cases_eq, cases_lt, lt-ltb, le-ltb}
 use Rattle.std.proofs.lemmas.List.{get_or-set_same, get_or-set_other, get_or_past, get_or-replicate, length-replicate}
 use Rattle.bits.specs.Bits.{bit, has, how_many}
-use Rattle.bits.proofs.Digits.{bit-bit_or, bit-bit_and, bit_lone, bit_zero, bit_high}
+use Rattle.bits.proofs.Digits.{bit-bit_or, bit-bit_and, bit_lone, bit_zero}
 use Rattle.bits.proofs.Counts.{count_ext, count_add, count_stop, count_one, ones_count}
 
 -- ---- one word of a row

@@ -1,5 +1,5 @@
 -- What the states say of an edge that arrives. Assumes nothing.
-use Rattle.std.proofs.Common.{◌≡◌, ℕ, zero, suc, ◌+◌, ◌<◌, ◌≤◌, Bool, true, false, cond, not, ◌&&◌, ◌||◌, T, eqb, ◌⊎◌, List, [], ◌∷◌, ◌++◌, length, get_or, take, set, Some, None, filter, Option, sym, refl, ap, ◌∙◌, subst, inl, inr, ⊎_elim, true≢false, append-nil, arith, eqb→eq}
+use Rattle.std.proofs.Common.{◌≡◌, ℕ, zero, suc, ◌+◌, ◌<◌, ◌≤◌, Bool, true, false, cond, not, ◌&&◌, ◌||◌, T, eqb, ◌⊎◌, List, [], ◌∷◌, ◌++◌, length, get_or, Some, None, filter, Option, sym, refl, ap, ◌∙◌, subst, inl, inr, append-nil, arith, eqb→eq}
 use lib.Dec.{eqb_refl}
 use Rattle.std.specs.List.{slice_get}
 use Rattle.std.proofs.lemmas.Option.{slice_get-get_or, slice_get_past}
@@ -14,8 +14,7 @@ use Rattle.index.specs.declared.links.EdgeLinks.{EdgeLinks}
 use Rattle.index.specs.declared.links.EdgeLinks.TheVariants.{NonWeak, Weak}
 use Rattle.buffers.specs.declared.states.SingleBufferState.{SingleBufferState}
 use Rattle.buffers.specs.declared.states.SingleBufferState.TheVariants.{Buffered, Released}
-use Rattle.buffers.specs.declared.states.Event.{Event}
-use Rattle.buffers.specs.declared.states.Event.TheVariants.{Arrives, Told}
+use Rattle.buffers.specs.declared.states.Event.TheVariants.{Arrives}
 use Rattle.buffers.specs.declared.states.Outcome.{Outcome}
 use Rattle.buffers.specs.declared.states.Outcome.TheVariants.{Holds, Judges, Frees, Nothing}
 

@@ -1,8 +1,8 @@
 -- A filter whose registered indexes are all buffered, with no edge, was told nothing and holds nothing. Assumes nothing.
-use Rattle.std.proofs.Common.{◌≡◌, ℕ, ◌+◌, ◌<◌, ◌≤◌, Bool, true, false, T, ◌≢◌, List, [], ◌∷◌, length, get_or, set, sym, refl, ap, ◌∙◌, subst, inl, inr, arith, get_or-set_other, get_or-set_same, below_more}
+use Rattle.std.proofs.Common.{◌≡◌, ℕ, ◌+◌, ◌<◌, Bool, true, false, T, ◌≢◌, List, length, set, sym, refl, ap, ◌∙◌, subst, inl, arith, get_or-set_other, get_or-set_same, below_more}
 use Rattle.buffers.specs.Buffers.{Entry, is_out, state_of, told_by, Chained, Okay}
 use Rattle.buffers.specs.declared.states.SingleBufferState.{SingleBufferState}
-use Rattle.buffers.specs.declared.states.SingleBufferState.TheVariants.{Buffered, Released}
+use Rattle.buffers.specs.declared.states.SingleBufferState.TheVariants.{Buffered}
 use Rattle.buffers.proofs.Arriving.{told_some}
 
 -- the indexes below n are buffered and have no edge

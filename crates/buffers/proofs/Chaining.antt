@@ -1,12 +1,9 @@
 -- Chains of places, and an edge that joins its chain. Assumes nothing.
-use Rattle.std.proofs.Common.{◌≡◌, ℕ, zero, suc, ◌+◌, ◌-◌, ◌<◌, ◌≤◌, Bool, true, false, cond, not, ◌&&◌, ◌||◌, T, eqb, ◌≢◌, ◌⊎◌, List, [], ◌∷◌, ◌++◌, map, length, get_or, take, set, Some, None, Option, sym, refl, ap, ◌∙◌, subst, inl, inr, ⊎_elim, true≢false, arith, eqb→eq, length-set, get_or-set_other, get_or-set_same}
+use Rattle.std.proofs.Common.{◌≡◌, ℕ, zero, suc, ◌+◌, ◌<◌, ◌≤◌, Bool, true, false, T, ◌≢◌, List, [], ◌∷◌, ◌++◌, map, length, get_or, take, set, Some, None, Option, sym, refl, ap, ◌∙◌, subst, inl, inr, true≢false, arith, eqb→eq, length-set, get_or-set_other, get_or-set_same}
 use native.Mathlib.Decide.{dec_lt, ℕ_discrete}
-use lib.Dec.{eqb_refl}
 use Rattle.std.proofs.lemmas.List.{take_more_set, take_more, map-append}
 use Rattle.buffers.specs.Rules.{links, at_index}
 use Rattle.buffers.specs.Buffers.{Ref, Entry, meaning, is_out, state_of, edge_of, lying, at_place, next_of, Void, Next, Last, Linked, Chained, Okay}
-use Rattle.theory.specs.Edges.{Edge}
-use Rattle.index.specs.declared.records.FeatureEdge.{FeatureEdge}
 use Rattle.index.specs.declared.links.EdgeLinks.{EdgeLinks}
 use Rattle.index.specs.declared.links.EdgeLinks.TheVariants.{NonWeak, Weak}
 use Rattle.buffers.specs.declared.states.SingleBufferState.{SingleBufferState}

@@ -1,10 +1,9 @@
 -- Following a chain. Assumes nothing.
-use Rattle.std.proofs.Common.{◌≡◌, ℕ, zero, suc, ◌+◌, ◌-◌, ◌<◌, ◌≤◌, Bool, true, false, cond, ◌&&◌, eqb, ◌≢◌, ◌⊎◌, List, [], ◌∷◌, ◌++◌, map, length, get_or, take, set, filter, sym, refl, ap, ◌∙◌, subst, inl, inr, ⊎_elim, true≢false, append_assoc, append-nil, arith, length-append, length-set}
-use native.Mathlib.Decide.{dec_lt, ℕ_discrete}
+use Rattle.std.proofs.Common.{◌≡◌, ℕ, zero, suc, ◌+◌, ◌-◌, ◌<◌, ◌≤◌, Bool, true, false, cond, ◌&&◌, List, [], ◌∷◌, ◌++◌, map, length, get_or, take, set, filter, sym, refl, ap, ◌∙◌, subst, inl, inr, append_assoc, append-nil, arith, length-append}
 use Rattle.std.proofs.lemmas.List.{take_more_set, map_push, get_or_default}
 use Rattle.std.proofs.lemmas.List.Elements.{filter-append}
 use Rattle.buffers.specs.Rules.{links, wanted, at_index, goes_out}
-use Rattle.buffers.specs.Buffers.{Ref, Entry, meaning, edge_of, handed, lying, at_place, next_of, Void, Next, Linked}
+use Rattle.buffers.specs.Buffers.{Ref, Entry, meaning, edge_of, handed, lying, at_place, Void, Next, Linked}
 use Rattle.index.specs.declared.links.Link.{Link}
 use Rattle.theory.specs.Edges.{Edge}
 use Rattle.index.specs.declared.records.FeatureEdge.{FeatureEdge}

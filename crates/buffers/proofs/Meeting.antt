@@ -1,14 +1,13 @@
 -- What an index makes of an edge that arrives while it is buffered. Assumes nothing.
-use Rattle.std.proofs.Common.{◌≡◌, ℕ, zero, suc, ◌+◌, ◌-◌, ◌<◌, ◌≤◌, Bool, true, false, ◌≢◌, ◌⊎◌, List, [], ◌∷◌, ◌++◌, map, length, get_or, take, set, sym, refl, ap, ◌∙◌, subst, inl, inr, ⊎_elim, arith, length-set}
-use native.Mathlib.Decide.{dec_lt, ℕ_discrete}
+use Rattle.std.proofs.Common.{◌≡◌, ℕ, suc, ◌+◌, ◌-◌, ◌<◌, Bool, true, List, length, get_or, set, sym, refl, ap, ◌∙◌, subst, inl, inr, arith, length-set}
+use native.Mathlib.Decide.{ℕ_discrete}
 use Rattle.buffers.specs.Rules.{links, at_index}
-use Rattle.buffers.specs.Buffers.{Ref, Entry, meaning, is_out, state_of, edge_of, lying, at_place, next_of, Void, Next, Last, Linked, Chained, Okay, Ready, Met}
+use Rattle.buffers.specs.Buffers.{Ref, Entry, meaning, state_of, at_place, next_of, Next, Last, Linked, Chained, Okay, Ready, Met}
 use Rattle.buffers.specs.declared.states.SingleBufferState.{SingleBufferState}
-use Rattle.buffers.specs.declared.states.SingleBufferState.TheVariants.{Buffered, Released}
+use Rattle.buffers.specs.declared.states.SingleBufferState.TheVariants.{Buffered}
 use Rattle.buffers.specs.declared.states.Event.{Event}
-use Rattle.buffers.specs.declared.states.Event.TheVariants.{Arrives, Told}
-use Rattle.buffers.specs.declared.states.Outcome.{Outcome}
-use Rattle.buffers.specs.declared.states.Outcome.TheVariants.{Holds, Judges, Frees}
+use Rattle.buffers.specs.declared.states.Event.TheVariants.{Arrives}
+use Rattle.buffers.specs.declared.states.Outcome.TheVariants.{Holds}
 use Rattle.buffers.proofs.Chaining.{at_set_same, at_set_other, next_set_same, next_set_other, at_read, lying_set, lying_relink, joined, joined_outs}
 
 last_below : (a : ℕ → Bool) (n l : ℕ) → Last a n l → (l ≡ 0 → ⊥) → l - 1 < n

@@ -1,7 +1,7 @@
 -- What an index makes of its release node being told. Assumes nothing.
-use Rattle.std.proofs.Common.{◌≡◌, ℕ, zero, suc, ◌+◌, ◌-◌, ◌<◌, ◌≤◌, Bool, true, false, cond, not, ◌&&◌, ◌||◌, T, eqb, ◌≢◌, ◌⊎◌, List, [], ◌∷◌, ◌++◌, length, get_or, take, set, Some, None, filter, Option, sym, refl, ap, ◌∙◌, subst, inl, inr, ⊎_elim, true≢false, append-nil, arith, eqb→eq, length-set, get_or-set_other, get_or-set_same}
+use Rattle.std.proofs.Common.{◌≡◌, ℕ, ◌+◌, ◌<◌, ◌≤◌, Bool, true, false, cond, not, ◌&&◌, T, eqb, ◌⊎◌, List, [], ◌∷◌, ◌++◌, length, Some, None, filter, Option, sym, refl, ap, ◌∙◌, subst, inl, inr, true≢false, arith, eqb→eq, length-set, get_or-set_other, get_or-set_same}
 use Rattle.buffers.specs.Rules.{links, wanted, at_index, goes_out}
-use Rattle.buffers.specs.Buffers.{Ref, Entry, handed, is_out, state_of, waits_in, held_one, lying, held_in, at_place, Void, Next, Last, Linked, Chained, Met, Moved}
+use Rattle.buffers.specs.Buffers.{Ref, Entry, handed, is_out, state_of, waits_in, held_one, lying, held_in, at_place, Next, Linked, Chained, Met, Moved}
 use Rattle.index.specs.declared.links.Link.{Link}
 use Rattle.theory.specs.Edges.{Edge}
 use Rattle.index.specs.declared.records.FeatureEdge.{FeatureEdge}
@@ -9,10 +9,9 @@ use Rattle.index.specs.declared.links.EdgeLinks.{EdgeLinks}
 use Rattle.index.specs.declared.links.EdgeLinks.TheVariants.{NonWeak, Weak}
 use Rattle.buffers.specs.declared.states.SingleBufferState.{SingleBufferState}
 use Rattle.buffers.specs.declared.states.SingleBufferState.TheVariants.{Buffered, Released}
-use Rattle.buffers.specs.declared.states.Event.TheVariants.{Arrives, Told}
+use Rattle.buffers.specs.declared.states.Event.TheVariants.{Told}
 use Rattle.buffers.specs.declared.states.Outcome.{Outcome}
 use Rattle.buffers.specs.declared.states.Outcome.TheVariants.{Holds, Judges, Frees, Nothing}
-use Rattle.buffers.proofs.Following.{skip_to}
 
 -- two sieves that agree on what p lets through
 pub kept_agree : {X : Type 0} (p q r : X → Bool) (xs : List X) → ((x : X) → p x ≡ true → q x ≡ r x) → filter p (filter q xs) ≡ filter p (filter r xs)

@@ -1,8 +1,8 @@
 -- A node is told: how far the walk along its indexes has come, and what it comes to. Assumes nothing.
-use Rattle.std.proofs.Common.{◌≡◌, ℕ, zero, suc, ◌+◌, ◌-◌, ◌%◌, ◌<◌, ◌≤◌, Bool, true, false, cond, not, ◌&&◌, ◌||◌, T, eqb, ◌≢◌, ◌⊎◌, List, [], ◌∷◌, ◌++◌, length, get_or, take, Some, None, filter, Option, sym, refl, ap, ◌∙◌, subst, inl, inr, ⊎_elim, true≢false, append-nil, arith, eqb→eq, length-append}
+use Rattle.std.proofs.Common.{◌≡◌, ℕ, zero, suc, ◌+◌, ◌-◌, ◌%◌, ◌<◌, ◌≤◌, Bool, true, false, cond, not, ◌&&◌, ◌||◌, T, eqb, List, [], ◌∷◌, ◌++◌, length, get_or, take, Some, None, filter, Option, sym, refl, ap, ◌∙◌, subst, inl, inr, true≢false, append-nil, arith, eqb→eq, length-append}
 use native.Mathlib.Decide.{dec_lt, ℕ_discrete}
 use lib.Dec.{eqb_refl}
-use lib.ListN.{length-map, get_or-eq_default}
+use lib.ListN.{length-map}
 use Rattle.std.specs.List.{slice_get}
 use Rattle.std.proofs.lemmas.Option.{slice_get-get_or, slice_get_past}
 use Rattle.std.proofs.lemmas.List.{length-take-le}
@@ -14,15 +14,15 @@ use Rattle.filter.specs.Filters.{Discovers}
 use Rattle.buffers.specs.Rules.{links, waiting, wanted, goes_out, freed, feature_rule}
 use Rattle.buffers.specs.Buffers.{Ref, Entry, handed, is_out, state_of, told_by, waits_in, held_one, edge_of, lying, held_in, seek, in_bucket, Void, Next, Chained, Okay, Moved}
 use Rattle.index.specs.declared.links.Link.{Link}
-use Rattle.theory.specs.Edges.{Edge, In}
+use Rattle.theory.specs.Edges.{Edge}
 use Rattle.index.specs.declared.records.FeatureEdge.{FeatureEdge}
 use Rattle.index.specs.declared.links.EdgeLinks.{EdgeLinks}
 use Rattle.index.specs.declared.links.EdgeLinks.TheVariants.{NonWeak, Weak}
 use Rattle.buffers.specs.declared.states.SingleBufferState.{SingleBufferState}
 use Rattle.buffers.specs.declared.states.SingleBufferState.TheVariants.{Buffered, Released}
 use Rattle.buffers.proofs.Following.{left_to}
-use Rattle.buffers.proofs.Arriving.{Agree, told_at, told_some}
-use Rattle.buffers.proofs.Releasing.{kept_agree, kept_true, kept_false, goes_held}
+use Rattle.buffers.proofs.Arriving.{Agree, told_at}
+use Rattle.buffers.proofs.Releasing.{kept_agree, kept_true, goes_held}
 use Rattle.buffers.proofs.Fairness.{freed_each, feature_fair}
 
 is_true : (b : Bool) → T b → b ≡ true

@@ -1,9 +1,8 @@
 -- From what the calls of a draft promise to the edges of the four-node graph. Assumes nothing.
-use Rattle.std.proofs.Common.{◌≡◌, ℕ, ◌+◌, ◌<◌, false, List, [], ◌∷◌, length, None, Result, sym, refl, ap, ◌∙◌, subst, arith}
+use Rattle.std.proofs.Common.{◌≡◌, ℕ, ◌+◌, ◌<◌, false, List, [], ◌∷◌, length, None, Result, ap, ◌∙◌, subst, arith}
 use Rattle.theory.specs.Edges.{Edge}
 use Rattle.theory.specs.Pairs.{Pair}
 use Rattle.index.specs.declared.records.FeatureEdge.{FeatureEdge}
-use Rattle.index.specs.declared.records.FeatureEdge.TheVariants.{NamedFeature, DependenciesSection, WeakSlash}
 use Rattle.index.specs.declared.records.WeakIndex.{WeakIndex}
 use Rattle.index.specs.declared.refusal.Refusal.{Refusal}
 use Rattle.index.specs.Records.{read_feature_edge, weak_of}

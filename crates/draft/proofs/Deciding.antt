@@ -1,5 +1,5 @@
 -- Calls of a draft to which no refusal applies. Assumes nothing.
-use Rattle.std.proofs.Common.{◌≡◌, ℕ, ◌*◌, ◌<◌, ◌≤◌, Bool, true, false, cond, ◌||◌, ltb, leb, List, length, Some, None, Option, Result, sym, refl, ap, ◌∙◌, subst, arith}
+use Rattle.std.proofs.Common.{◌≡◌, ℕ, ◌*◌, ◌<◌, ◌≤◌, false, ◌||◌, ltb, leb, List, length, None, Option, Result, sym, ◌∙◌, subst}
 use Rattle.std.proofs.lemmas.Bool.{cond-false, lt-leb, le-ltb, or_from}
 use Rattle.theory.specs.Limits.{node_limit, edge_limit}
 use Rattle.index.specs.declared.records.WeakIndex.{WeakIndex}

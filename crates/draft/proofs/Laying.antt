@@ -1,11 +1,10 @@
 -- A table keeps its chains as an edge is laid, and its edges are then those before with the new one first.
 -- Assumes nothing.
-use Rattle.std.proofs.Common.{◌≡◌, ℕ, zero, suc, ◌+◌, ◌*◌, ◌<◌, ◌≤◌, List, [], ◌∷◌, length, get_or, sym, refl, ap, ◌∙◌, subst, inl, inr, arith, below_more}
+use Rattle.std.proofs.Common.{◌≡◌, ℕ, ◌+◌, ◌*◌, ◌<◌, List, [], ◌∷◌, length, get_or, sym, ap, ◌∙◌, subst, inl, inr, arith, below_more}
 use mathlib.Core.Logic.{∥∥₁_elim}
 use native.Mathlib.Bridge.{le_prop}
 use std.HLevel.{Π_prop}
 use Rattle.std.proofs.lemmas.Bool.{cases_eq}
-use Rattle.theory.specs.Edges.{Edge}
 use Rattle.theory.specs.Chains.{Last}
 use Rattle.theory.proofs.Chaining.{last_prop, last_none, head_other, head_new, link_old, link_new, newest_more}
 use Rattle.draft.specs.Table.{source_at, target_at, record_at, edge_at, laid, Chains, chains_prop, Laid}

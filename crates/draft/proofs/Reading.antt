@@ -1,13 +1,13 @@
 -- A table with chains means a graph whose lists have the latest edge first, and a walk along its links gives them.
 -- Assumes nothing.
-use Rattle.std.proofs.Common.{◌≡◌, ℕ, ◌+◌, ◌-◌, ◌*◌, ◌<◌, ◌≤◌, Bool, true, false, cond, ltb, List, [], ◌∷◌, length, get_or, Some, filter, Option, sym, refl, ap, ◌∙◌, subst, arith}
+use Rattle.std.proofs.Common.{◌≡◌, ℕ, ◌+◌, ◌-◌, ◌*◌, ◌<◌, ◌≤◌, Bool, true, false, cond, ltb, List, get_or, Some, filter, Option, sym, refl, ap, ◌∙◌, subst, arith}
 use Rattle.std.proofs.lemmas.Bool.{lt-ltb, ltb-true}
 use Rattle.theory.specs.Limits.{node_limit, edge_limit}
 use Rattle.theory.specs.Edges.{Edge, In, leaves, enters}
 use Rattle.theory.specs.Graphs.{Sound, Tied, Steps}
 use Rattle.theory.specs.Chains.{from}
 use Rattle.theory.proofs.Chaining.{from_last, in_keyed, keyed_in, once_keyed, link_step}
-use Rattle.draft.specs.Table.{source_at, target_at, edge_at, laid, Chains}
+use Rattle.draft.specs.Table.{target_at, edge_at, laid, Chains}
 
 abbrev pub source_of : {W : Type 0} → Edge W → ℕ
 source_of e = e.source

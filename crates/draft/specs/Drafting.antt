@@ -2,9 +2,8 @@
 -- set_up_refused, pair_refused, edge_refused: the first refusal that applies to a call, if one does.
 -- SetsUp, TakesPair, TakesEdge: the answer, and the draft after the call; after a refusal the draft and every word of its
 -- table are as they were.  Assumes nothing.
-use Rattle.std.specs.Prelude.{◌≡◌, ℕ, ◌+◌, ◌-◌, ◌*◌, ◌/◌, Bool, false, cond, ◌||◌, List, [], ◌∷◌, ◌++◌, length, Some, None, Ok, Err, Option, Result, nat_le, nat_lt}
+use Rattle.std.specs.Prelude.{◌≡◌, ℕ, ◌+◌, ◌-◌, ◌*◌, ◌/◌, Bool, false, cond, ◌||◌, List, [], ◌∷◌, length, Some, None, Ok, Err, Option, Result, nat_le, nat_lt}
 use Rattle.theory.specs.Limits.{node_limit, edge_limit}
-use Rattle.theory.specs.Edges.{Edge}
 use Rattle.theory.specs.Pairs.{Pair}
 use Rattle.index.specs.declared.records.WeakIndex.{WeakIndex}
 use Rattle.index.specs.declared.refusal.Layer.TheVariants.{Graph}

@@ -1,5 +1,5 @@
 -- What a filter holds and hands out, with edges turned round. Assumes nothing.
-use Rattle.std.proofs.Common.{◌≡◌, ℕ, ◌≤◌, Bool, true, false, cond, List, [], ◌∷◌, ◌++◌, map, length, take, drop, Some, None, filter, Option, sym, refl, ap, ◌∙◌, subst, inl, inr, arith}
+use Rattle.std.proofs.Common.{◌≡◌, ℕ, ◌≤◌, Bool, true, false, cond, List, [], ◌∷◌, ◌++◌, map, length, take, drop, Some, None, filter, Option, sym, refl, ap, ◌∙◌, inl, inr}
 use Rattle.std.proofs.lemmas.List.{map-append, length-map, length-take-le, take_at}
 use Rattle.theory.specs.Edges.{Edge, In, turn}
 use Rattle.theory.specs.Rules.{Rule, Fair, held_for, waits_on, stays_at}

@@ -1,9 +1,8 @@
 -- What the contracts of a feature filter come to, along the calls of the four-node walk. Assumes nothing.
-use Rattle.std.proofs.Common.{◌≡◌, ℕ, zero, suc, ◌≤◌, Bool, true, false, cond, ◌||◌, eqb, List, [], ◌∷◌, ◌++◌, map, length, get_or, take, Some, None, filter, sym, refl, ap, ◌∙◌, subst, arith}
+use Rattle.std.proofs.Common.{◌≡◌, ℕ, zero, suc, ◌≤◌, Bool, true, false, cond, ◌||◌, eqb, List, [], ◌∷◌, ◌++◌, length, get_or, take, Some, None, filter, sym, refl, ap, ◌∙◌, arith}
 use Rattle.std.proofs.lemmas.List.{length-map, length-take-le}
 use Rattle.theory.specs.Edges.{Edge}
 use Rattle.theory.specs.Rules.{Rule, hands, holds, held_for, stays_at}
-use Rattle.index.specs.declared.direction.DependencyDirection.{DependencyDirection}
 use Rattle.index.specs.declared.direction.DependencyDirection.TheVariants.{Forward}
 use Rattle.index.specs.declared.links.Link.{Link}
 use Rattle.index.specs.declared.records.FeatureEdge.{FeatureEdge}

@@ -1,9 +1,8 @@
 -- A list of a sound graph has no more edges than the graph, and a filter that was told one node alone. Assumes nothing.
 use Rattle.std.proofs.Common.{◌≡◌, ℕ, ◌+◌, ◌<◌, ◌≤◌, Bool, true, false, cond, ◌||◌, eqb, List, [], ◌∷◌, length, Some, None, filter, Option, refl, ap, ◌∙◌, arith}
-use Rattle.std.proofs.lemmas.List.Filters.{length-filter_both}
 use Rattle.theory.specs.Edges.{Edge}
 use Rattle.theory.specs.Graphs.{Sound, Steps}
-use Rattle.theory.specs.Rules.{Rule, Waits, was_told, hands}
+use Rattle.theory.specs.Rules.{Rule, was_told, hands}
 use Rattle.theory.specs.Walk.{mark}
 use Rattle.theory.proofs.Cursors.{step_some}
 use Rattle.theory.proofs.Kept.{at_most}

@@ -1,5 +1,5 @@
 -- Texts added one after another. Assumes nothing.
-use Rattle.std.proofs.Common.{◌≡◌, ℕ, cond, List, [], ◌∷◌, ◌++◌, is_ok, Ok, Err, Result, sym, refl, ap, ◌∙◌, append_assoc}
+use Rattle.std.proofs.Common.{◌≡◌, ℕ, cond, List, ◌++◌, is_ok, Ok, Err, Result, ap, ◌∙◌, append_assoc}
 use Rattle.orders.specs.Wording.{Writes}
 
 -- a text, and then another

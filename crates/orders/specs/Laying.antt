@@ -1,7 +1,7 @@
 -- What a feature edge of an order file does to a draft.
 -- LaysWith: the edge comes, with the record of its form.  Lays: a weak form registers its pair first; a refused pair
 -- drops the edge, and a pair that was registered stays whatever becomes of the edge. Assumes nothing.
-use Rattle.std.specs.Prelude.{◌≡◌, ℕ, Some, None, Ok, Err, Option, Result}
+use Rattle.std.specs.Prelude.{◌≡◌, ℕ, Ok, Err, Option, Result}
 use Rattle.index.specs.declared.records.FeatureEdge.{FeatureEdge}
 use Rattle.index.specs.declared.records.FeatureEdge.TheVariants.{NamedFeature, FeatureToBase, DependenciesSection, NamedFeatureDepColon, StrongSlash, WeakSlash}
 use Rattle.index.specs.declared.records.WeakIndex.{WeakIndex}

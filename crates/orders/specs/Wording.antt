@@ -7,7 +7,6 @@ use Rattle.theory.specs.Edges.{Edge}
 use Rattle.index.specs.declared.refusal.Layer.{Layer}
 use Rattle.index.specs.declared.refusal.Layer.TheVariants.{Graph, Rack}
 use Rattle.index.specs.declared.refusal.Told.{Told}
-use Rattle.words.specs.declared.Span.{Span}
 use Rattle.records.specs.declared.Complaint.{Complaint}
 use Rattle.records.specs.declared.Complaint.TheVariants.{WordMissing, NoNumber, MaskAbove255, UnknownKind, UnknownForm, UnknownCall, WordTooMany, EdgeWithoutGraph, PairWithoutFeatureDraft, SetUpWithoutGraph, CallBeforeSetUp}
 

@@ -1,5 +1,5 @@
 -- The record of a line: a row for each name.
-use Rattle.std.specs.Prelude.{ℕ, List, [], ◌∷◌, Some, None, Ok, Err, codes, Option, Result}
+use Rattle.std.specs.Prelude.{ℕ, List, [], ◌∷◌, Some, None, Ok, codes, Option, Result}
 use Rattle.words.specs.Places.{record_text, word_from, trim}
 use Rattle.words.specs.declared.Span.{Span}
 use Rattle.records.specs.declared.values.Complaint.{Complaint}

@@ -1,6 +1,6 @@
 -- What the contracts of sets say at concrete numbers: the members of a set that was made, and what a cursor gives.
 -- Assumes nothing.
-use Rattle.std.proofs.Common.{◌≡◌, ℕ, List, [], ◌∷◌, Some, None, Ok, Option, sym, refl, ap, ◌∙◌, subst, arith}
+use Rattle.std.proofs.Common.{◌≡◌, ℕ, List, [], ◌∷◌, Some, None, Ok, Option, refl, subst, arith}
 use Rattle.std.specs.Option.{option_map}
 use Rattle.theory.specs.Graphs.{Steps}
 use Rattle.index.specs.declared.spec.FeatureIx.{FeatureIx}

@@ -5,7 +5,6 @@ use mathlib.Core.Bool.{or-false, or_assoc}
 use Rattle.std.specs.Option.{option_map}
 use Rattle.std.proofs.lemmas.List.{take_more}
 use Rattle.std.proofs.lemmas.Bool.{cases_Bool}
-use Rattle.theory.specs.Listings.{some}
 use Rattle.sets.specs.Making.{first_failing, among}
 
 pub failing_none : (p : ℕ → Bool) (xs : List ℕ) → ((j : ℕ) → j < length xs → p (get_or xs j 0) ≡ true) → first_failing p xs ≡ None

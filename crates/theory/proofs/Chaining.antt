@@ -1,6 +1,6 @@
 -- Chains of links, and the lists that they stand for: a link that tells the latest item stays right as an item is added,
 -- and a walk along the links gives just the items with the key, the latest first. Assumes nothing.
-use Rattle.std.proofs.Common.{◌≡◌, ℕ, zero, suc, ◌+◌, ◌-◌, ◌<◌, ◌≤◌, Bool, true, false, cond, eqb, leb, ◌⊎◌, List, [], ◌∷◌, Some, sym, refl, ap, ◌∙◌, subst, inl, inr, add-one, sub-one, arith}
+use Rattle.std.proofs.Common.{◌≡◌, ℕ, zero, suc, ◌+◌, ◌-◌, ◌<◌, ◌≤◌, true, false, eqb, leb, [], ◌∷◌, Some, sym, refl, ap, ◌∙◌, subst, inl, inr, add-one, sub-one, arith}
 use native.Mathlib.Bridge.{le_prop}
 use native.Mathlib.Nat.{ℕ_set}
 use std.HLevel.{Π_prop}

@@ -1,13 +1,12 @@
 -- A search along a bucket's chain finds the pair of a package edge or shows that there is none, and the tables keep
 -- their chains as a pair is added. Assumes nothing.
-use Rattle.std.proofs.Common.{◌≡◌, ℕ, ◌+◌, ◌-◌, ◌%◌, ◌<◌, ◌≤◌, ◌≢◌, ◌⊎◌, List, [], ◌∷◌, ◌++◌, length, get_or, set, replicate, Some, None, sym, refl, ap, ◌∙◌, subst, inl, inr, arith, get_or-set_other, get_or-set_same, below_more}
+use Rattle.std.proofs.Common.{◌≡◌, ℕ, ◌+◌, ◌-◌, ◌%◌, ◌<◌, ◌≤◌, ◌≢◌, List, [], ◌∷◌, ◌++◌, length, get_or, set, replicate, Some, None, sym, ap, ◌∙◌, subst, inl, inr, arith, get_or-set_other, get_or-set_same, below_more}
 use mathlib.Core.Logic.{∥∥₁_elim}
-use native.Mathlib.Bridge.{le_prop}
 use std.HLevel.{Π_prop}
 use lib.ListN.{get_or-replicate}
 use Rattle.std.proofs.lemmas.Bool.{cases_lt, cases_eq}
 use Rattle.theory.specs.Chains.{Last}
-use Rattle.theory.specs.Pairs.{Pair, listed, place}
+use Rattle.theory.specs.Pairs.{listed, place}
 use Rattle.theory.proofs.Chaining.{last_prop, last_none, head_other, head_new, link_old, link_new}
 use Rattle.theory.proofs.Placing.{place_none, place_some, listed_more}
 use Rattle.weak.specs.Hashed.{bucket_at, Hashed, Hashed-prop}

@@ -1,13 +1,13 @@
 -- From call to call the draft has the edges of the four-node graph, and its lists are read off them.
-use Rattle.std.proofs.Common.{◌≡◌, List, [], ◌∷◌, map, length, Some, None, filter, sym, refl, ap, ◌∙◌, arith}
-use Rattle.theory.specs.Edges.{Edge, leaves, enters, turn, within}
+use Rattle.std.proofs.Common.{◌≡◌, [], ◌∷◌, map, length, Some, None, filter, refl, ap, ◌∙◌, arith}
+use Rattle.theory.specs.Edges.{leaves, enters, turn, within}
 use Rattle.index.specs.declared.records.FeatureEdge.{FeatureEdge}
 use Rattle.index.specs.declared.records.FeatureEdge.TheVariants.{NamedFeature, DependenciesSection, WeakSlash}
 use Rattle.index.specs.Records.{read_feature_edge}
 use Rattle.draft.specs.Table.{laid}
 use Rattle.draft.specs.Drafting.{state_of}
 use Rattle.clients.specs.Firsts.{first_two, others}
-use Rattle.clients.proofs.Drawing.{begun, paired, adds, edge, edges_of}
+use Rattle.clients.proofs.Drawing.{begun, paired, adds, edge}
 use Rattle.clients.proofs.four_nodes.four_nodes.Goals as goal
 
 pub returns : goal.returns

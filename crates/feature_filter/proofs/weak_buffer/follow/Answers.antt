@@ -1,8 +1,8 @@
 -- Each turn deals with one entry more.
-use Rattle.std.proofs.Common.{◌≡◌, ◌-◌, ◌<◌, length, get_or, sym, refl, ap, ◌∙◌, arith, rules}
+use Rattle.std.proofs.Common.{◌-◌, ◌<◌, length, get_or, sym, refl, ap, ◌∙◌, arith, rules}
 use Rattle.buffers.specs.Rules.{links, wanted}
 use Rattle.buffers.specs.Buffers.{edge_of}
-use Rattle.buffers.proofs.Following.{nothing, following_start, following_end, place_ok, turned}
+use Rattle.buffers.proofs.Following.{nothing, following_start, following_end, turned}
 use Rattle.feature_filter.proofs.weak_buffer.follow.Goals as goal
 
 pub loop-link-init : goal.loop-link-init

@@ -1,8 +1,7 @@
 -- The draft registered one pair, with node 2.
-use Rattle.std.proofs.Common.{◌≡◌, map, length, None, refl, ap, ◌∙◌, arith}
+use Rattle.std.proofs.Common.{◌≡◌, map, length, refl, ap, ◌∙◌, arith}
 use Rattle.theory.specs.Pairs.{Pair}
-use Rattle.index.specs.declared.records.FeatureEdge.{FeatureEdge}
-use Rattle.index.specs.declared.records.FeatureEdge.TheVariants.{NamedFeature, DependenciesSection, WeakSlash}
+use Rattle.index.specs.declared.records.FeatureEdge.TheVariants.{NamedFeature, DependenciesSection}
 use Rattle.weak.specs.Registered.{pairs}
 use Rattle.draft.specs.Drafting.{state_of}
 use Rattle.clients.proofs.Drawing.{begun, paired, adds}

@@ -1,12 +1,11 @@
 -- From call to call.
-use Rattle.std.proofs.Common.{◌≡◌, eqb, [], ◌∷◌, ◌++◌, map, get_or, sym, refl, ap, ◌∙◌, arith}
-use Rattle.theory.specs.Pairs.{Pair}
+use Rattle.std.proofs.Common.{◌≡◌, eqb, [], ◌∷◌, ◌++◌, ap, ◌∙◌, arith}
 use Rattle.index.specs.declared.links.Link.{Link}
 use Rattle.index.specs.declared.records.FeatureEdge.TheVariants.{NamedFeature}
 use Rattle.verdict.specs.Verdicts.{shares}
 use Rattle.buffers.specs.Rules.{feature_rule}
 use Rattle.buffers.specs.Buffers.{Ref, meaning}
-use Rattle.filter_clients.proofs.Calls.{rule, slash, by_section, by_name, by_slash, tells_none, tells_slash, still_untold, first_untold, counted, first_out}
+use Rattle.filter_clients.proofs.Calls.{rule, by_section, by_name, by_slash, tells_none, tells_slash, still_untold, first_untold, counted, first_out}
 use Rattle.filter_clients.proofs.four_nodes.walk.Goals as goal
 
 -- what a read of the hand-out table gives where it has no entry

@@ -1,5 +1,5 @@
 -- There is room for the next edge, since the list has no more edges than the graph.
-use Rattle.std.proofs.Common.{◌≡◌, ◌+◌, ◌<◌, ◌≤◌, false, cond, leb, length, Some, None, filter, sym, refl, ap, ◌∙◌, subst, arith, rules}
+use Rattle.std.proofs.Common.{◌≡◌, ◌<◌, ◌≤◌, false, leb, length, Some, filter, sym, ap, ◌∙◌, subst, arith, rules}
 use Rattle.std.proofs.lemmas.Bool.{cond-true, le-leb}
 use Rattle.theory.specs.Rules.{hands}
 use Rattle.theory.specs.Walk.{mark}

@@ -1,5 +1,5 @@
 -- An incoming list is short: its edges have different numbers below the limit.
-use Rattle.std.proofs.Common.{◌≡◌, ◌<◌, length, ap, ◌∙◌, arith}
+use Rattle.std.proofs.Common.{length, ap, ◌∙◌, arith}
 use Rattle.theory.proofs.Kept.{at_most}
 use Rattle.orders.proofs.listing.write_into.Goals as goal
 

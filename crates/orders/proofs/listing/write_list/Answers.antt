@@ -1,6 +1,6 @@
 -- The head of the line and then its edges make the line.
 use Rattle.std.proofs.Common.{◌++◌, vec_items, ap, ◌∙◌}
-use Rattle.orders.specs.Wording.{edges_text, head_text}
+use Rattle.orders.specs.Wording.{head_text}
 use Rattle.orders.proofs.Adding.{writes_then}
 use Rattle.orders.proofs.listing.write_list.Goals as goal
 

@@ -1,5 +1,5 @@
 -- The text that was made is the one that was added.
-use Rattle.std.proofs.Common.{◌≡◌, ◌++◌, vec_items, string_bytes, codes, sym, refl, ap, ◌∙◌, append_assoc}
+use Rattle.std.proofs.Common.{◌≡◌, vec_items, string_bytes, ◌∙◌}
 use Rattle.orders.specs.Wording.{pair_text}
 use Rattle.orders.proofs.Adding.{writes_text}
 use Rattle.orders.proofs.wording.write_pair.Goals as goal

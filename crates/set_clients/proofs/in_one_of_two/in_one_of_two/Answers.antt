@@ -1,5 +1,5 @@
 -- The members are those that the contracts of the calls name.
-use Rattle.std.proofs.Common.{◌≡◌, ℕ, Bool, ◌&&◌, ltb, List, [], ◌∷◌, length, refl, ap, ◌∙◌, ap₂}
+use Rattle.std.proofs.Common.{◌≡◌, ℕ, Bool, ◌&&◌, ltb, [], ◌∷◌, length, refl, ap, ◌∙◌, ap₂}
 use Rattle.theory.specs.PostOrder.{below}
 use Rattle.bits.specs.Bits.{listing}
 use Rattle.bits.proofs.Counts.{listing_ext}

@@ -1,5 +1,5 @@
 -- The first index beyond the graph, by those before it.
-use Rattle.std.proofs.Common.{◌≡◌, ltb, map, length, sym, ap, ◌∙◌, arith, below_more}
+use Rattle.std.proofs.Common.{ltb, map, sym, ap, ◌∙◌, arith, below_more}
 use Rattle.std.proofs.lemmas.List.{length-map, get_or-map}
 use Rattle.std.proofs.lemmas.Bool.{lt-ltb, le-ltb}
 use Rattle.sets.proofs.Failing.{failing_none, failing_at}

@@ -1,5 +1,5 @@
 -- The digits of 2 ^ k - 1 are those below k.
-use Rattle.std.proofs.Common.{◌≡◌, ◌-◌, sym, ap, ◌∙◌, arith}
+use Rattle.std.proofs.Common.{◌-◌, sym, ap, ◌∙◌, arith}
 use Rattle.std.proofs.lemmas.Bool.{lt-ltb}
 use Rattle.std.proofs.lemmas.Nat.{one_shl}
 use Rattle.bits.specs.Bits.{bit}

@@ -1,6 +1,5 @@
 -- A link gives its edge, and the edge's own link the rest of the list.
 use Rattle.std.proofs.Common.{◌≡◌, ◌-◌, ◌<◌, ◌≤◌, ap, ◌∙◌, arith}
-use Rattle.theory.specs.Edges.{Edge}
 use Rattle.draft.specs.Table.{edge_at}
 use Rattle.draft.specs.declared.finished.EdgeCursor.{EdgeCursor}
 use Rattle.draft.proofs.Laying.{whole}

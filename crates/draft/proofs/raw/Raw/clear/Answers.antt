@@ -1,5 +1,5 @@
 -- One more word is 0, and the table is as long as it was.
-use Rattle.std.proofs.Common.{◌≡◌, ◌<◌, ◌≢◌, length, ◌∙◌, arith, length-set, get_or-set_other, get_or-set_same, below_more}
+use Rattle.std.proofs.Common.{◌<◌, ◌≢◌, length, arith, length-set, get_or-set_other, get_or-set_same, below_more}
 use Rattle.draft.proofs.raw.Raw.clear.Goals as goal
 
 pub loop-i-preserved : goal.loop-i-preserved

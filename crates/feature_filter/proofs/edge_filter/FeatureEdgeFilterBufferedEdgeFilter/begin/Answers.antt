@@ -1,5 +1,5 @@
 -- All registered indexes are blank at the end.
-use Rattle.std.proofs.Common.{◌≡◌, ◌<◌, length, sym, refl, ap, ◌∙◌, subst, arith}
+use Rattle.std.proofs.Common.{◌≡◌, ◌<◌, length, refl, ap, subst, arith}
 use Rattle.buffers.specs.Rules.{feature_rule}
 use Rattle.buffers.proofs.Beginning.{Blank, blank_more, blank_told, blank_okay}
 use Rattle.feature_filter.proofs.edge_filter.FeatureEdgeFilterBufferedEdgeFilter.begin.Goals as goal

@@ -1,5 +1,5 @@
 -- In Forward the node is told, in Reverse nothing waits.
-use Rattle.std.proofs.Common.{◌≡◌, refl, arith}
+use Rattle.std.proofs.Common.{refl, arith}
 use Rattle.buffers.specs.Rules.{feature_rule}
 use Rattle.buffers.proofs.Telling.{back_none, ahead}
 use Rattle.feature_filter.proofs.edge_filter.FeatureEdgeFilterBufferedEdgeFilter.discover.Goals as goal

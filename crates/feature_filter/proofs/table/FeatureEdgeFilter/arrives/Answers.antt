@@ -1,5 +1,5 @@
 -- What becomes of the edge follows from what its index makes of it.
-use Rattle.std.proofs.Common.{◌≡◌, sym, refl, ap, ◌∙◌, arith}
+use Rattle.std.proofs.Common.{refl, ap, ◌∙◌, arith}
 use Rattle.buffers.proofs.Arriving.{past_answer, past_keeps, not_judged, arrived_holds, arrived_judges}
 use Rattle.feature_filter.proofs.table.FeatureEdgeFilter.arrives.Goals as goal
 

@@ -1,5 +1,5 @@
 -- What the index held goes out along its links, or nothing does.
-use Rattle.std.proofs.Common.{◌≡◌, ◌+◌, ◌<◌, ◌++◌, length, sym, refl, ap, ◌∙◌, append-nil, arith}
+use Rattle.std.proofs.Common.{◌<◌, ◌++◌, length, sym, refl, ap, ◌∙◌, append-nil, arith}
 use Rattle.buffers.specs.Buffers.{handed}
 use Rattle.buffers.proofs.Releasing.{not_freed, told_frees, told_again, ready_fits, ready_linked, ready_room, gone_out, gone_count}
 use Rattle.feature_filter.proofs.table.FeatureEdgeFilter.release.Goals as goal

@@ -1,5 +1,5 @@
 -- One index more is dealt with.
-use Rattle.std.proofs.Common.{◌≡◌, ◌-◌, ◌%◌, ◌<◌, length, get_or, sym, refl, ap, ◌∙◌, subst, arith}
+use Rattle.std.proofs.Common.{◌≡◌, ◌-◌, ◌%◌, ◌<◌, get_or, sym, refl, ap, ◌∙◌, arith}
 use Rattle.buffers.proofs.Telling.{telling_start, index_ok, telling_less, telling_past, req_chained, req_room, more_by, okay_by, all_by, told_fits}
 use Rattle.feature_filter.proofs.table.FeatureEdgeFilter.tell.Goals as goal
 

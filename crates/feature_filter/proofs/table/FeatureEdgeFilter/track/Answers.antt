@@ -1,5 +1,5 @@
 -- The optional half arrives with the edge's own links.
-use Rattle.std.proofs.Common.{◌≡◌, Some, sym, ap, ◌∙◌, subst, arith}
+use Rattle.std.proofs.Common.{Some, sym, ap, ◌∙◌, subst, arith}
 use Rattle.buffers.specs.Buffers.{Okay}
 use Rattle.feature_filter.proofs.table.FeatureEdgeFilter.track.Goals as goal
 

@@ -1,6 +1,6 @@
 -- A row of zeros has no member.
 use Rattle.std.proofs.Common.{◌≡◌, ℕ, ◌+◌, ◌/◌, false, List, replicate, vec_items, sym, refl, ap, ◌∙◌}
-use Rattle.bits.specs.Bits.{has, how_many}
+use Rattle.bits.specs.Bits.{has}
 use Rattle.bits.proofs.Counts.{count_none}
 use Rattle.bits.proofs.Rows.{has_zeros}
 use Rattle.sets.proofs.ix_set.IxSet.empty.Goals as goal

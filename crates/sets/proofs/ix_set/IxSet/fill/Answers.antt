@@ -1,5 +1,5 @@
 -- One more word is full.
-use Rattle.std.proofs.Common.{◌-◌, ◌/◌, ◌%◌, ◌^◌, true, cond, ◌&&◌, eqb, ltb, ap, ◌∙◌, ap₂, arith}
+use Rattle.std.proofs.Common.{◌-◌, ◌/◌, ◌%◌, ◌^◌, cond, ◌&&◌, eqb, ltb, ap, ◌∙◌, ap₂, arith}
 use Rattle.std.proofs.lemmas.Bool.{lt-ltb}
 use Rattle.bits.specs.Bits.{bit}
 use Rattle.bits.proofs.Digits.{low_bits}

@@ -2,7 +2,6 @@
 use Rattle.std.proofs.Common.{◌≡◌, ◌<◌, true, ◌&&◌, ◌||◌, eqb, ltb, map, length, get_or, None, Ok, sym, ap, ◌∙◌, subst, ap₂, arith}
 use mathlib.Core.Bool.{and-true}
 use Rattle.std.proofs.lemmas.List.{length-map, get_or-map, take_all}
-use Rattle.sets.specs.Sets.{member}
 use Rattle.sets.specs.Making.{among, beyond, MakesBy}
 use Rattle.sets.proofs.Failing.{failing_passes, among_more}
 use Rattle.sets.proofs.ix_set.IxSet.from_ixs.Goals as goal

@@ -7,7 +7,6 @@ use Rattle.std.proofs.lemmas.Bool.{lt-ltb}
 use Rattle.bits.specs.Bits.{has}
 use Rattle.bits.proofs.Counts.{count_room}
 use Rattle.bits.proofs.Rows.{put_has, put_below, put_count}
-use Rattle.sets.specs.Sets.{member}
 use Rattle.sets.proofs.ix_set.IxSet.insert.Goals as goal
 
 pub overflow_add-self : goal.overflow_add-self

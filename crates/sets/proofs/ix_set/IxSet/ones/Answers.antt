@@ -1,5 +1,5 @@
 -- As a cursor begins it has every member to give.
-use Rattle.std.proofs.Common.{◌≡◌, ℕ, List, sym, subst}
+use Rattle.std.proofs.Common.{◌≡◌, sym, subst}
 use Rattle.bits.specs.Bits.{Lists, listing, pending}
 use Rattle.bits.proofs.Counts.{listing_ext, listing_lists}
 use Rattle.bits.proofs.Cursors.{pending_begin}

@@ -1,5 +1,5 @@
 -- A word stored, cut to the nodes: the other words' members stay, and the count moves by the digits set before and after.
-use Rattle.std.proofs.Common.{◌≡◌, ℕ, ◌+◌, ◌-◌, ◌*◌, ◌/◌, ◌<◌, length, get_or, set, vec_items, refl, arith}
+use Rattle.std.proofs.Common.{◌<◌, length, set, vec_items, refl, arith}
 use lib.Bits.{bit_and}
 use Rattle.std.proofs.lemmas.List.{get_or_read}
 use Rattle.bits.specs.Bits.{has}

@@ -1,5 +1,5 @@
 -- A copy has the same words.
-use Rattle.std.proofs.Common.{◌≡◌, vec_items, sym, refl, ap, ◌∙◌, subst}
+use Rattle.std.proofs.Common.{◌≡◌, vec_items, sym, refl, ap, ◌∙◌}
 use Rattle.std.proofs.lemmas.List.Elements.{same_from_all_zip}
 use Rattle.bits.specs.Bits.{has, how_many}
 use Rattle.sets.proofs.make.IxSetClone.clone.Goals as goal

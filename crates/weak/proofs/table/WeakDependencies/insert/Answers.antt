@@ -1,5 +1,5 @@
 -- A new pair comes last, and the tables keep their chains.
-use Rattle.std.proofs.Common.{◌≡◌, ◌%◌, ◌<◌, length, Ok, sym, ap, ◌∙◌, arith, length-set}
+use Rattle.std.proofs.Common.{◌%◌, ◌<◌, Ok, sym, ap, ◌∙◌, arith, length-set}
 use Rattle.theory.specs.Pairs.{Pair}
 use Rattle.theory.proofs.Placing.{length-listed, none_placed}
 use Rattle.weak.specs.Registered.{pair_at, pairs, weak_index}
