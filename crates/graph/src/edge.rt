@@ -19,13 +19,19 @@ pub fn edge_triple<I: Copy, W: Copy>(edge: EdgeRef<I, W>) -> (I, I, u32)
 }
 
 // The edge with its ends swapped.
-pub fn turned<I: Copy, W: Copy>(edge: EdgeRef<I, W>) -> EdgeRef<I, W>
+pub fn turned<I, W>(edge: EdgeRef<I, W>) -> EdgeRef<I, W>
     ensures { result ≡ turned_ref edge }
 {
+    let EdgeRef {
+        source,
+        target,
+        number,
+        weight,
+    } = edge;
     EdgeRef {
-        source: edge.target,
-        target: edge.source,
-        number: edge.number,
-        weight: edge.weight,
+        source: target,
+        target: source,
+        number,
+        weight,
     }
 }
