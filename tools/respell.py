@@ -21,7 +21,8 @@ def respelled(text):
 
 
 def files(top, endings):
-    for folder, _, found in os.walk(top):
+    for folder, below, found in os.walk(top):
+        below[:] = [name for name in below if name != 'out']
         for name in sorted(found):
             if name.endswith(endings):
                 yield os.path.join(folder, name)

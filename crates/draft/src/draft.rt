@@ -1,6 +1,6 @@
 // Drafts: graphs that still take weak pairs and edges.
 ghost use Rattle.std.specs.Prelude.{◌≡◌, ℕ, List, []};
-ghost use Rattle.weak.specs.Registered.{pairs as pairsOf};
+ghost use Rattle.weak.specs.Registered.{pairs as pairs_of};
 ghost use Rattle.draft.specs.Table.{Room, Chains};
 ghost use Rattle.draft.specs.Drafting.{state_of, SetsUp, TakesPair, TakesEdge};
 
@@ -26,7 +26,7 @@ impl<'a, S: GraphSpec> Draft<'a, S> {
     pub fn new(words: &'a mut [u32], spec: S) -> Draft<'a, S>
         ensures nodes { result.raw.nodes ≡ 0 }
         ensures edges { result.raw.edges ≡ 0 }
-        ensures pairs { pairsOf result.weak ≡ [] }
+        ensures pairs { pairs_of result.weak ≡ [] }
         ensures words { result.raw.words.now ≡ words.old }
     {
         let raw = Raw {

@@ -4,7 +4,7 @@ ghost use Rattle.std.specs.Option.{option_map};
 ghost use Rattle.std.specs.List.{slice_get};
 ghost use Rattle.theory.specs.Edges.{leaves, enters};
 ghost use Rattle.theory.specs.Chains.{from};
-ghost use Rattle.weak.specs.Registered.{pairs as pairsOf};
+ghost use Rattle.weak.specs.Registered.{pairs as pairs_of};
 ghost use Rattle.draft.specs.Table.{Room, Chains, edge_at, laid};
 
 use crate::draft::Draft;
@@ -41,7 +41,7 @@ impl<'a, S: GraphSpec> Draft<'a, S> {
         ensures nodes { result.nodes ≡ self.entry.raw.nodes }
         ensures edges { result.edges ≡ self.entry.raw.edges }
         ensures words { result.words.now ≡ self.entry.raw.words.now }
-        ensures pairs { pairsOf result.weak ≡ pairsOf self.entry.weak }
+        ensures pairs { pairs_of result.weak ≡ pairs_of self.entry.weak }
     {
         let Draft { raw, weak, spec } = self;
         let Raw {
@@ -69,14 +69,14 @@ impl<'a, S: GraphSpec> FinishedGraph<'a, S> {
 
     // How many weak indexes are registered.
     pub fn weak_count(&self) -> u32
-        ensures { result ≡ length (pairsOf self.now.weak) }
+        ensures { result ≡ length (pairs_of self.now.weak) }
     {
         self.weak.len()
     }
 
     // The node that releases a weak index, if it is registered.
     pub fn release_node(&self, index: WeakIndex) -> Option<S::Ix>
-        ensures { option_map S.Ix.IndexType.number result ≡ option_map (λ p. p.release) (slice_get (pairsOf self.now.weak) index.0) }
+        ensures { option_map S.Ix.IndexType.number result ≡ option_map (λ p. p.release) (slice_get (pairs_of self.now.weak) index.0) }
     {
         match self.weak.release_node(index) {
             Some(node) => Some(S::Ix::new(node)),

@@ -1,7 +1,7 @@
 // The filter over feature edges.
 ghost use Rattle.std.specs.Prelude.{◌≡◌, ℕ, ◌≤◌, map};
 ghost use Rattle.theory.specs.Pairs.{Pair};
-ghost use Rattle.weak.specs.Registered.{pairs as pairsOf};
+ghost use Rattle.weak.specs.Registered.{pairs as pairs_of};
 ghost use Rattle.buffers.specs.Rules.{feature_rule};
 ghost use Rattle.buffers.specs.Buffers.{told_by, held_in, Okay};
 
@@ -27,7 +27,7 @@ impl<'a, V: Verdict> FeatureEdgeFilter<'a, V> {
     ) -> FeatureEdgeFilter<'a, V>
         ensures verdict { result.verdict ≡ verdict }
         ensures direction { result.direction ≡ direction }
-        ensures nodes { result.nodes.now ≡ map (λ (p : Pair). p.release) (pairsOf weak.now) }
+        ensures nodes { result.nodes.now ≡ map (λ (p : Pair). p.release) (pairs_of weak.now) }
     {
         let nodes = weak.releases();
         let mut firsts = [0; 4096];

@@ -2,7 +2,7 @@
 // these calls: it tells 0 and asks about the section and the name, tells 1 and asks about the slash, tells 2.
 ghost use Rattle.std.specs.Prelude.{◌≡◌, true, false, [], ◌∷◌, map};
 ghost use Rattle.theory.specs.Pairs.{Pair};
-ghost use Rattle.weak.specs.Registered.{pairs as pairsOf};
+ghost use Rattle.weak.specs.Registered.{pairs as pairs_of};
 
 use draft::draft::Draft;
 use feature_filter::table::FeatureEdgeFilter;
@@ -71,7 +71,7 @@ pub fn four_nodes(table: &mut [u32; 32]) -> Answers
 }
 
 fn walk(weak: &WeakDependencies) -> Answers
-    requires { map (λ (p : Pair). p.release) (pairsOf weak.now) ≡ 2 ∷ [] }
+    requires { map (λ (p : Pair). p.release) (pairs_of weak.now) ≡ 2 ∷ [] }
     ensures { result ≡ record { section = true; name = true; slash = false; told_0 = 0; told_1 = 0; told_2 = 1; released = 1 } }
 {
     let slash = FeatureEdge::WeakSlash {

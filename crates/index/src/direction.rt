@@ -1,6 +1,6 @@
 // The two directions in which dependencies are followed.
 ghost use Rattle.std.specs.Prelude.{◌≡◌};
-ghost use Rattle.index.specs.Directions.{opposite as turnedRound};
+ghost use Rattle.index.specs.Directions.{opposite as turned_round};
 
 // Forward: from an edge's source to its target. Reverse: from its target to its source.
 #[derive(Clone, Copy)]
@@ -12,7 +12,7 @@ pub enum DependencyDirection {
 impl DependencyDirection {
     // The other direction.
     pub fn opposite(self) -> DependencyDirection
-        ensures { result ≡ turnedRound self }
+        ensures { result ≡ turned_round self }
     {
         match self {
             DependencyDirection::Forward => DependencyDirection::Reverse,

@@ -1,6 +1,6 @@
 // Refusals: the answers of a call that does nothing. Their numbers are fixed, and give the order in which calls check.
 ghost use Rattle.std.specs.Prelude.{◌≡◌};
-ghost use Rattle.index.specs.Refusals.{told as toldOf};
+ghost use Rattle.index.specs.Refusals.{told as told_of};
 
 // The layer that refuses.
 #[derive(Clone, Copy)]
@@ -44,7 +44,7 @@ pub struct Told {
 
 impl Refusal {
     pub fn told(self) -> Told
-        ensures { result ≡ toldOf self }
+        ensures { result ≡ told_of self }
     {
         let (number, layer, detail) = match self {
             Refusal::TooManyNodes => (1, Layer::Graph, 0),

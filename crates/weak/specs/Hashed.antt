@@ -1,4 +1,4 @@
--- bucketOf: the bucket of a package edge.  Hashed: what the tables of the weak pairs keep to.  Sizes: how long they are.
+-- bucket_at: the bucket of a package edge.  Hashed: what the tables of the weak pairs keep to.  Sizes: how long they are.
 -- Assumes nothing.
 use Rattle.std.specs.Prelude.{◌≡◌, ℕ, ◌%◌, ◌<◌, List, length, ◌≢◌, slice_index}
 use Rattle.theory.specs.Chains.{Last}
