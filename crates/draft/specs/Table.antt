@@ -36,7 +36,7 @@ pub record Chains (ws : List ℕ) (nodes edges : ℕ) : Type 0 where
   pub ins : (n : ℕ) → n < nodes → Last (target_at ws nodes) edges n (slice_index ws (2 * n + 1))
   pub next_out : (e : ℕ) → e < edges → Last (source_at ws nodes) e (source_at ws nodes e) (slice_index ws (2 * nodes + 8 * e + 2))
   pub next_in : (e : ℕ) → e < edges → Last (target_at ws nodes) e (target_at ws nodes e) (slice_index ws (2 * nodes + 8 * e + 3))
-  deriving IsProp as chains_prop
+  deriving IsProp as Chains-prop
 
 -- nodes and edges are within the limits and the table
 abbrev pub Room : List ℕ → ℕ → ℕ → Type 0
