@@ -2,7 +2,8 @@
 """Brings this repository's own names to the spelling of today's Rattle: python3 tools/respell.py at the top of a checkout.
 
 The pairs of respell.txt beside this script are names as they were and as they are. Each is replaced where it stands as a whole
-word: in contracts, specs/, proofs/ and must-fail edits, and in the documents where it stands between backticks.
+word: in contracts, specs/, proofs/ and must-fail edits, and in the documents where it stands between backticks (but in
+docs/PORT.md, which tells of the old names).
 """
 import os
 import re
@@ -40,6 +41,6 @@ def change(path, turn):
 
 
 changed = sum(change(p, respelled) for p in files('crates', ('.rt', '.antt', '.edit')))
-documents = [p for p in files('docs', ('.md',))] + ['README.md']
+documents = [p for p in files('docs', ('.md',)) if os.path.basename(p) != 'PORT.md'] + ['README.md']
 changed += sum(change(p, lambda t: CODE.sub(lambda m: respelled(m.group(0)), t)) for p in documents if os.path.exists(p))
 print(f'respell: {changed} files changed', file=sys.stderr)
