@@ -17,7 +17,7 @@ pub trait NodeSet {
 }
 
 // A graph with every edge turned round, and the incoming lists in place of the outgoing ones.
-#[derive(Clone, Copy)]
+#[derive(Clone, Copy, PartialEq, Eq, Debug)]
 pub struct Reversed<G>(pub G);
 
 impl<G: BothWays> Graph for Reversed<G> {
@@ -59,10 +59,7 @@ impl<G: BothWays> Graph for Reversed<G> {
     }
 
     fn next(&self, c: &mut G::Cursor) -> Option<EdgeRef<G::Ix, G::Weight>> {
-        match self.0.next(c) {
-            Some(edge) => Some(turned(edge)),
-            None => None,
-        }
+        self.0.next(c).map(turned)
     }
 }
 
@@ -81,7 +78,7 @@ impl<G: BothWays> BothWays for Reversed<G> {
 }
 
 // The nodes of a graph that are in a set, and the edges between them, in the graph's order.
-#[derive(Clone, Copy)]
+#[derive(Clone, Copy, PartialEq, Eq, Debug)]
 pub struct NodeFiltered<G, S> {
     pub graph: G,
     pub set: S,
