@@ -1,3 +1,4 @@
+pub mod Deciding
 pub mod Laying
 pub mod Reading
-pub mod Deciding
+pub mod Writing

@@ -1,2 +1,4 @@
-pub mod Table
 pub mod Drafting
+pub mod State
+pub mod Table
+pub mod Walked
