@@ -1,4 +1,1 @@
 pub mod Deciding
-pub mod Laying
-pub mod Reading
-pub mod Writing

@@ -1,4 +1,3 @@
 pub mod Drafting
 pub mod State
-pub mod Table
 pub mod Walked

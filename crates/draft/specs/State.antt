@@ -2,7 +2,7 @@
 use Rattle.std.specs.Prelude.{ℕ, List}
 use Rattle.theory.specs.Edges.{Edge}
 use Rattle.theory.specs.Pairs.{Pair}
-use Rattle.draft.specs.Table.{laid}
+use Rattle.tables.specs.Table.{laid}
 
 -- the words of its table, how many nodes and edges they hold, and the weak pairs
 pub record State : Type 0 where

@@ -24,14 +24,14 @@ pub struct Draft<'a, S> {
 }
 
 impl<'a, S> Model for Draft<'a, S> {
-    ghost use Rattle.draft.specs.Table.{Room, Chains};
+    ghost use Rattle.tables.specs.Table.{Kept};
     ghost use Rattle.draft.specs.State.{State};
 
     ghost Value = { State };
 
     ghost view = { λ d. record { words = d.words.now; nodes = d.nodes; edges = d.edges; pairs = d.weak } };
 
-    ghost invariant = { λ d. Room d.words.now d.nodes d.edges × Chains d.words.now d.nodes d.edges };
+    ghost invariant = { λ d. Kept d.words.now d.nodes d.edges };
 }
 
 impl<'a, S: GraphSpec> Draft<'a, S> {

@@ -4,7 +4,10 @@ ghost use Rattle.std.specs.Option.{option_map};
 ghost use Rattle.std.specs.List.{slice_get};
 ghost use Rattle.theory.specs.Edges.{leaves, enters};
 ghost use Rattle.draft.specs.State.{edges_of};
-ghost use Rattle.draft.specs.Walked.{rest_of, touching};
+ghost use Rattle.draft.specs.Walked.{rest_of};
+ghost use Rattle.tables.specs.Table.{Kept, touching};
+ghost use Rattle.tables.proofs.Laying.{kept_prop};
+ghost use Rattle.tables.proofs.Reading.{table_sound, table_tied};
 
 use crate::draft::Draft;
 use crate::raw::{head_place, linked_edge};
@@ -16,14 +19,15 @@ use index::spec::{GraphSpec, IndexType};
 use weak::table::WeakDependencies;
 
 // A graph over a caller's table, which nobody writes any more: a draft that takes no more edges. Its lists have the
-// latest edge first.
+// latest edge first. What the table keeps to stands in the value, since the laws of graphs hold of each value.
 #[derive(Drop)]
 pub struct FinishedGraph<'a, S> {
     draft: Draft<'a, S>,
+    ghost kept: { Kept draft.words draft.nodes draft.edges } by { kept_prop },
 }
 
 // Where a walk along a list stands: the next edge of a chain of outgoing or of incoming edges, if there is one.
-#[derive(Clone, Copy)]
+#[derive(Clone, Copy, PartialEq, Eq, Debug)]
 pub struct EdgeCursor {
     direction: DependencyDirection,
     next: Option<u32>,
@@ -34,6 +38,7 @@ impl<'a, S: GraphSpec> Draft<'a, S> {
     pub fn finish(self) -> FinishedGraph<'a, S>
         ensures { result.draft ≡ self.entry }
     {
+        let _ = &self.nodes; // what the draft keeps to goes on
         FinishedGraph { draft: self }
     }
 }
@@ -92,9 +97,8 @@ impl<'a, S: GraphSpec> Graph for FinishedGraph<'a, S> {
 
     ghost rest = { λ g c. rest_of S.Edge.EdgeRecord.held g.draft c };
 
-    fn sound(&self) {
-        let _ = &self.draft.nodes; // the draft's invariant is for the proof
-    }
+    // The edges of a table with chains are those of a graph.
+    ghost sound = { λ g. table_sound S.Edge.EdgeRecord.held g.draft.words g.draft.nodes g.draft.edges g.kept };
 
     fn node_bound(&self) -> u32 {
         self.draft.nodes // every index below is a node
@@ -135,12 +139,10 @@ impl<'a, S: GraphSpec> Graph for FinishedGraph<'a, S> {
 impl<'a, S: GraphSpec> BothWays for FinishedGraph<'a, S> {
     ghost ins = { λ g n. filter (enters n) (edges_of S.Edge.EdgeRecord.held g.draft) };
 
-    fn tied(&self) {
-        let _ = &self.draft.nodes; // the draft's invariant is for the proof
-    }
+    // Both kinds of list are filters of one list of edges.
+    ghost tied = { λ g. table_tied S.Edge.EdgeRecord.held g.draft.words g.draft.nodes g.draft.edges g.kept };
 
     fn incoming(&self, n: S::Ix) -> EdgeCursor {
-        self.tied();
         self.chain(DependencyDirection::Reverse, n)
     }
 }

@@ -2,7 +2,7 @@
 // The words stay numbers, links with 0 for no edge, since that is the format of the caller's table.
 ghost use Rattle.std.specs.Prelude.{◌≡◌, ℕ, ◌+◌, ◌*◌, ◌<◌, ◌≤◌, length, slice_index};
 ghost use Rattle.theory.specs.Limits.{edge_limit};
-ghost use Rattle.draft.specs.Table.{Laid, head_place as place_of_head, link_word};
+ghost use Rattle.tables.specs.Table.{Laid, head_place as place_of_head, link_word};
 
 use index::direction::DependencyDirection;
 

@@ -1,6 +1,6 @@
 -- Eight words are written behind those of the other edges, and then the two heads.
 use Rattle.std.proofs.Common.{arith}
-use Rattle.draft.proofs.Writing.{edge_laid}
+use Rattle.tables.proofs.Writing.{edge_laid}
 use Rattle.draft.proofs.raw.lay.Goals as goal
 
 pub returns : goal.returns

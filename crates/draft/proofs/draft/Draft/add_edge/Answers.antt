@@ -3,17 +3,16 @@ use Rattle.std.proofs.Common.{◌≡◌, Ok, ◌+◌, ◌-◌, ◌*◌, ◌/◌,
 use Rattle.draft.specs.State.{State}
 use Rattle.draft.specs.Drafting.{TakesEdge, unregistered}
 use Rattle.draft.proofs.Deciding.{edge_fits, taken}
-use Rattle.draft.proofs.Laying.{laid_chains, laid_edges}
+use Rattle.tables.proofs.Laying.{kept_laid, laid_edges}
 use Rattle.draft.proofs.draft.Draft.add_edge.Goals as goal
 
 pub invariant_of-self : goal.invariant_of-self
 invariant_of-self g c =
     let d = c.self.inside in
     let nodes = ap (λ (x : State). x.nodes) c.self.view_is in
-    let long : length c.lay.new.words ≡ length d.words.now = c.lay.ensures.long in
     let few : d.edges < 16384 = c.if-e-ge-EDGE_LIMIT.false in
     let room : d.edges < (length d.words.now - 2 * d.nodes) / 8 = c.if-e-room.false in
-    ((omega arith, omega arith, omega arith), laid_chains d.words.now c.lay.new.words d.nodes d.edges _ _ _ c.lay.ensures (omega arith) (omega arith) c.self.invariant.1)
+    kept_laid d.words.now c.lay.new.words d.nodes d.edges _ _ _ c.lay.ensures (omega arith) (omega arith) c.self.invariant few (omega arith)
 
 pub returns : goal.returns
 returns g c =

@@ -3,8 +3,8 @@ use Rattle.std.proofs.Common.{◌≡◌, suc, Some, sym, ap, ◌∙◌, subst, a
 use Rattle.theory.specs.Chains.{from}
 use Rattle.theory.specs.Graphs.{Steps}
 use Rattle.index.specs.declared.direction.DependencyDirection.TheVariants.{Forward, Reverse}
-use Rattle.draft.specs.Table.{edge_at, end_of, next_at}
-use Rattle.draft.proofs.Reading.{chain_step, edge_read, next_read}
+use Rattle.tables.specs.Table.{edge_at, end_of, next_at}
+use Rattle.tables.proofs.Reading.{chain_step, edge_read, next_read}
 use Rattle.draft.proofs.finished.FinishedGraphGraph.next.Goals.{in-Forward, in-Reverse}
 use Rattle.draft.proofs.finished.FinishedGraphGraph.next.Goals as goal
 
@@ -14,7 +14,7 @@ returns g c =
     let held = g.S.Edge.EdgeRecord.held in
     let e = c.in_ok-number.number in
     let way = c.args.c.now.direction in
-    let step = chain_step held d.words.now d.nodes d.edges c.self.invariant.1 way e (omega arith) in
+    let step = chain_step held d.words.now d.nodes d.edges c.self.invariant way e (omega arith) in
     let source = c.new.ensures in
     let target = c.new-2.ensures in
     let weight = c.decode.ensures in

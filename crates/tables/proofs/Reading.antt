@@ -2,19 +2,17 @@
 -- Assumes nothing.
 use Rattle.std.proofs.Common.{◌≡◌, ℕ, suc, ◌+◌, ◌-◌, ◌*◌, ◌<◌, ◌≤◌, ltb, List, [], ◌∷◌, take, drop, get_or, Some, filter, sym, refl, ap, ◌∙◌, subst, add-zero, arith, get_or-take, get_or-drop}
 use Rattle.std.proofs.lemmas.Bool.{lt-ltb, ltb-true}
-use Rattle.theory.specs.Limits.{node_limit, edge_limit}
 use Rattle.theory.specs.Edges.{Edge, In, leaves, enters}
 use Rattle.theory.specs.Graphs.{Sound, Tied, Steps}
 use Rattle.theory.specs.Chains.{Last, from}
 use Rattle.theory.proofs.Chaining.{from_last, in_keyed, keyed_in, once_keyed, link_step}
 use Rattle.index.specs.declared.direction.DependencyDirection.{DependencyDirection}
 use Rattle.index.specs.declared.direction.DependencyDirection.TheVariants.{Forward, Reverse}
-use Rattle.draft.specs.Table.{target_at, edge_at, end_of, end_at, end_among, head_at, next_at, laid, Chains}
-use Rattle.draft.specs.Walked.{touching}
+use Rattle.tables.specs.Table.{target_at, edge_at, end_of, end_at, end_among, head_at, next_at, laid, touching, Kept}
 
-module _ {W : Type 0} (held : List ℕ → W) (ws : List ℕ) (nodes edges : ℕ) (c : Chains ws nodes edges) where
-  pub table_sound : nodes ≤ node_limit → edges ≤ edge_limit → Sound (λ n. ltb n nodes) nodes edges (λ n. filter (leaves n) (laid held ws nodes edges))
-  table_sound few small = record {
+module _ {W : Type 0} (held : List ℕ → W) (ws : List ℕ) (nodes edges : ℕ) (c : Kept ws nodes edges) where
+  pub table_sound : Sound (λ n. ltb n nodes) nodes edges (λ n. filter (leaves n) (laid held ws nodes edges))
+  table_sound = record {
     below = λ n h. ltb-true n nodes h;
     source = λ n e i. let r = in_keyed (end_of Forward) (edge_at held ws nodes) edges n e i in ap (λ (x : Edge W). x.source) r.3 ∙ r.2;
     from = λ n e i. let r = in_keyed (end_of Forward) (edge_at held ws nodes) edges n e i in let b = c.ends Forward r.0 r.1 in let q = r.2 in lt-ltb n nodes (omega arith);
@@ -28,8 +26,8 @@ module _ {W : Type 0} (held : List ℕ → W) (ws : List ℕ) (nodes edges : ℕ
         let k : r.0 ≡ u.0 = omega arith in
         r.3 ∙ ap (edge_at held ws nodes) k ∙ sym u.3;
     once = λ n. once_keyed (end_of Forward) (edge_at held ws nodes) (λ _. refl) edges n;
-    few_nodes = few;
-    few_edges = small;
+    few_nodes = c.few_nodes;
+    few_edges = c.few_edges;
   }
 
   pub table_tied : Tied (λ n. filter (leaves n) (laid held ws nodes edges)) (λ n. filter (enters n) (laid held ws nodes edges))

@@ -3,7 +3,7 @@ use Rattle.std.proofs.Common.{◌≡◌, ℕ, ◌+◌, ◌*◌, ◌-◌, ◌<◌
 use Rattle.std.proofs.lemmas.List.{places}
 use borrow.Rule.Slice.PartMut.{put_mid}
 use Rattle.index.specs.declared.direction.DependencyDirection.TheVariants.{Forward, Reverse}
-use Rattle.draft.specs.Table.{Laid}
+use Rattle.tables.specs.Table.{Laid}
 
 four_words : (xs : List ℕ) → length xs ≡ 4 → get_or xs 0 0 ∷ get_or xs 1 0 ∷ get_or xs 2 0 ∷ get_or xs 3 0 ∷ [] ≡ xs
 four_words [] f = absurd (omega arith)

@@ -1,16 +1,27 @@
 -- A table keeps its chains as an edge is laid, and its edges are then those before with the new one first.
 -- Assumes nothing.
-use Rattle.std.proofs.Common.{◌≡◌, ℕ, ◌+◌, ◌*◌, ◌<◌, List, ◌∷◌, get_or, sym, ap, ◌∙◌, subst, inl, inr, arith, below_more}
+use Rattle.std.proofs.Common.{◌≡◌, ℕ, ◌+◌, ◌*◌, ◌<◌, ◌≤◌, List, ◌∷◌, length, get_or, sym, ap, ◌∙◌, subst, inl, inr, arith, below_more}
+use std.HLevel.{Π_prop}
+use native.Mathlib.Bridge.{le_prop}
 use Rattle.std.proofs.lemmas.Bool.{cases_eq}
+use Rattle.theory.specs.Limits.{node_limit, edge_limit}
 use Rattle.theory.specs.Chains.{Last}
-use Rattle.theory.proofs.Chaining.{last_none, head_other, head_new, link_old, link_new, newest_more}
+use Rattle.theory.proofs.Chaining.{last_prop, last_none, head_other, head_new, link_old, link_new, newest_more}
 use Rattle.index.specs.declared.direction.DependencyDirection.{DependencyDirection}
 use Rattle.index.specs.declared.direction.DependencyDirection.TheVariants.{Forward, Reverse}
-use Rattle.draft.specs.Table.{end_at, end_among, head_at, next_at, record_at, edge_at, laid, Chains, Laid}
+use Rattle.tables.specs.Table.{end_at, end_among, head_at, next_at, record_at, edge_at, laid, Kept, Kept-prop, Laid}
+
+pub kept_prop : {ws : List ℕ} {nodes edges : ℕ} → IsProp (Kept ws nodes edges)
+kept_prop =
+    Kept-prop le_prop le_prop le_prop (Π_prop (λ _. Π_prop (λ _. Π_prop (λ _. le_prop)))) (Π_prop (λ _. Π_prop (λ _. Π_prop (λ _. last_prop))))
+    (Π_prop (λ _. Π_prop (λ _. Π_prop (λ _. last_prop))))
 
 -- a table whose first words are 0 has chains of no edge
-pub clear_chains : (ws : List ℕ) (nodes : ℕ) → ((k : ℕ) → k < 2 * nodes → get_or ws k 0 ≡ 0) → Chains ws nodes 0
-clear_chains ws nodes z = record {
+pub kept_clear : (ws : List ℕ) (nodes : ℕ) → nodes ≤ node_limit → 2 * nodes ≤ length ws → ((k : ℕ) → k < 2 * nodes → get_or ws k 0 ≡ 0) → Kept ws nodes 0
+kept_clear ws nodes few long z = record {
+  few_nodes = few;
+  few_edges = omega arith;
+  fits = omega arith;
   ends = λ d e b. absurd (omega arith);
   heads = λ d n b. subst (Last (end_at d ws nodes) 0 n) (sym (head d n b)) (last_none (end_at d ws nodes) n);
   nexts = λ d e b. absurd (omega arith);
@@ -40,8 +51,11 @@ module _ (ws vs : List ℕ) (nodes e s t : ℕ) (words : List ℕ) (l : Laid ws 
   end_in Forward = s_in
   end_in Reverse = t_in
 
-  pub laid_chains : Chains ws nodes e → Chains vs nodes (e + 1)
-  laid_chains c = record {
+  pub kept_laid : Kept ws nodes e → e < edge_limit → 2 * nodes + 8 * e + 8 ≤ length ws → Kept vs nodes (e + 1)
+  kept_laid c few room = record {
+    few_nodes = c.few_nodes;
+    few_edges = omega arith;
+    fits = let long = l.long in omega arith;
     ends = λ d. below_more (λ k. end_at d vs nodes k < nodes) e (λ k b. let p = same_end d k b in let q = c.ends d k b in omega arith) (let p = l.ends d in let q = end_in d in omega arith);
     heads = λ d n b. elim (cases_eq n (end_among d s t)) [
       | inl q ↦ subst (Last (end_at d vs nodes) (e + 1) n) (sym (ap (head_at d vs) q ∙ l.front d)) (head_new (end_at d ws nodes) (end_at d vs nodes) e (same_end d) n (l.ends d ∙ sym q))

@@ -2,9 +2,9 @@
 -- then for each edge eight words: its source, its target, the next edge of the same source, the next of the same target,
 -- and the four words of its record. Heads and nexts are links: an edge's number and one, or 0 where the chain ends.
 -- The chain of a direction goes by an end: forward by the source, in reverse by the target.
--- end_of, end_at, end_among: that end.  head_at, next_at: the links of the chain.  edge_at: an edge.  laid: all, the latest first.
--- Chains, Room: what a table keeps to.  Laid: an edge was written.  Assumes nothing.
-use Rattle.std.specs.Prelude.{◌≡◌, ℕ, suc, ◌+◌, ◌*◌, ◌<◌, ◌≤◌, List, [], ◌∷◌, length, Some, None, Option, ◌≢◌, slice_index}
+-- end_of, end_at, end_among: that end.  touching: it is a given node.  head_at, next_at: the links of the chain.  edge_at: an edge.  laid: all, the latest first.
+-- Kept: what a table keeps to.  Laid: an edge was written.  Assumes nothing.
+use Rattle.std.specs.Prelude.{◌≡◌, ℕ, suc, ◌+◌, ◌*◌, ◌<◌, ◌≤◌, Bool, List, [], ◌∷◌, length, Some, None, Option, ◌==◌, ◌≢◌, slice_index}
 use Rattle.theory.specs.Limits.{node_limit, edge_limit}
 use Rattle.theory.specs.Edges.{Edge}
 use Rattle.theory.specs.Chains.{newest, Last}
@@ -36,6 +36,9 @@ abbrev pub end_of : {W : Type 0} → DependencyDirection → Edge W → ℕ
 end_of Forward e = e.source
 end_of Reverse e = e.target
 
+abbrev pub touching : {W : Type 0} → DependencyDirection → ℕ → Edge W → Bool
+touching d n e = end_of d e == n
+
 abbrev pub end_at : DependencyDirection → List ℕ → ℕ → ℕ → ℕ
 end_at Forward ws nodes e = source_at ws nodes e
 end_at Reverse ws nodes e = target_at ws nodes e
@@ -58,15 +61,16 @@ abbrev pub link_word : Option ℕ → ℕ
 link_word None = 0
 link_word (Some e) = suc e
 
--- the ends are nodes, and heads and nexts tell the latest edges with their ends
-pub record Chains (ws : List ℕ) (nodes edges : ℕ) : Type 0 where
+-- nodes and edges are within the limits and the table, the ends are nodes, and heads and nexts tell the latest edges
+-- with their ends
+pub record Kept (ws : List ℕ) (nodes edges : ℕ) : Type 0 where
+  pub few_nodes : nodes ≤ node_limit
+  pub few_edges : edges ≤ edge_limit
+  pub fits : 2 * nodes + 8 * edges ≤ length ws
   pub ends : (d : DependencyDirection) (e : ℕ) → e < edges → end_at d ws nodes e < nodes
   pub heads : (d : DependencyDirection) (n : ℕ) → n < nodes → Last (end_at d ws nodes) edges n (head_at d ws n)
   pub nexts : (d : DependencyDirection) (e : ℕ) → e < edges → Last (end_at d ws nodes) e (end_at d ws nodes e) (next_at d ws nodes e)
-
--- nodes and edges are within the limits and the table
-abbrev pub Room : List ℕ → ℕ → ℕ → Type 0
-Room ws nodes edges = (nodes ≤ node_limit) × (edges ≤ edge_limit) × (2 * nodes + 8 * edges ≤ length ws)
+  deriving IsProp as Kept-prop
 
 -- the one of two ends that a direction's chain goes by
 abbrev pub end_among : DependencyDirection → ℕ → ℕ → ℕ
