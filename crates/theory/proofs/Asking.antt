@@ -7,21 +7,7 @@ use Rattle.theory.specs.Rules.{Rule, Waits, is_node, waits_on, stays_at, was_tol
 use Rattle.theory.specs.Least.{Opens}
 use Rattle.theory.specs.Walk.{send, sends, Asked, asks}
 use Rattle.theory.proofs.Kept.{in_kept, kept_in, kept_all}
-
-in_front : {X : Type 0} (x : X) (xs ys : List X) → In x xs → In x (xs ++ ys)
-in_front x [] ys i = absurd i
-in_front x (y ∷ xs) ys (inl e) = inl e
-in_front x (y ∷ xs) ys (inr i) = inr (in_front x xs ys i)
-
-in_last : {X : Type 0} (x : X) (xs : List X) → In x (xs ++ x ∷ [])
-in_last x [] = inl refl
-in_last x (y ∷ xs) = inr (in_last x xs)
-
-in_joined : {X : Type 0} (x y : X) (xs : List X) → In x (xs ++ y ∷ []) → In x xs ⊎ (x ≡ y)
-in_joined x y [] (inl e) = inr e
-in_joined x y [] (inr i) = absurd i
-in_joined x y (z ∷ xs) (inl e) = inl (inl e)
-in_joined x y (z ∷ xs) (inr i) = ⊎_elim (λ j. inl (inr j)) (λ e. inr e) (in_joined x y xs i)
+use Rattle.theory.proofs.Reaching.{in_cases, in_left, in_right}
 
 told_some : (d : ℕ → Bool) (o : Option ℕ) → was_told d o ≡ true → (w : ℕ) × (o ≡ Some w) × (d w ≡ true)
 told_some d None t = absurd (true≢false (sym t))
@@ -67,14 +53,14 @@ in_turn_fair passes waits = record {
 module _ {E : Type 0} (d : ℕ → Bool) (held : List E) (e : E) where
   hold_keeps : (o : Option ℕ) (f : E) → In f held → In f (held_for d held e o)
   hold_keeps None f i = i
-  hold_keeps (Some w) f i = cond_both (d w) held (held ++ e ∷ []) (In f) (λ _. i) (λ _. in_front f held (e ∷ []) i)
+  hold_keeps (Some w) f i = cond_both (d w) held (held ++ e ∷ []) (In f) (λ _. i) (λ _. in_left f held (e ∷ []) i)
 
   hold_new : (o : Option ℕ) (f : E) → In f (held_for d held e o) → In f held ⊎ (f ≡ e)
   hold_new None f i = inl i
-  hold_new (Some w) f i = cond_both (d w) held (held ++ e ∷ []) (λ l. In f l → In f held ⊎ (f ≡ e)) (λ _ j. inl j) (λ _ j. in_joined f e held j) i
+  hold_new (Some w) f i = cond_both (d w) held (held ++ e ∷ []) (λ l. In f l → In f held ⊎ (f ≡ e)) (λ _ j. inl j) (λ _ j. ⊎_elim (λ k. inl k) (⊎_elim (λ q. inr q) (λ z. absurd z)) (in_cases f held (e ∷ []) j)) i
 
   hold_own : (o : Option ℕ) (w : ℕ) → o ≡ Some w → d w ≡ false → In e (held_for d held e o)
-  hold_own o w q n = subst (λ v. In e (held_for d held e v)) (sym q) (subst (λ b. In e (cond b held (held ++ e ∷ []))) (sym n) (in_last e held))
+  hold_own o w q n = subst (λ v. In e (held_for d held e v)) (sym q) (subst (λ b. In e (cond b held (held ++ e ∷ []))) (sym n) (in_right e held (e ∷ []) (inl refl)))
 
   hold_most : (o : Option ℕ) → length (held_for d held e o) ≤ length held + 1
   hold_most None = omega arith

@@ -4,7 +4,6 @@ use Rattle.theory.specs.Edges.{In, Distinct}
 use Rattle.theory.specs.Listings.{inside}
 use Rattle.theory.specs.PostOrder.{Via, WalkFinishesWhatItReaches, in?, run, step}
 use Rattle.theory.specs.Reach.{Leads, Reach, here, more}
-use Rattle.theory.proofs.Reaching.{cons_nil}
 use Rattle.theory.proofs.PostRunning.{State-keeps, run_ends, run_keeps, visit_keeps}
 use Rattle.theory.proofs.PostWalking.{Cov, Told, Walk}
 
@@ -32,7 +31,7 @@ module _ (out : ℕ → List ℕ) (old : ℕ → Type 0) where
   pub walk_end : (d : ℕ → Type 0) (s f p : List ℕ) → s ≡ [] → Walk out old d s f p → (v : ℕ) → d v → In v f
   walk_end d [] f [] e w v h = ⊎_elim (λ i. i) (λ z. absurd z) (w.grey v h)
   walk_end d [] f (g ∷ p) e w v h = absurd w.lay
-  walk_end d (x ∷ s) f p e w v h = absurd (cons_nil x s e)
+  walk_end d (x ∷ s) f p e w v h = cc
 
 step_keeps : (out : ℕ → List ℕ) (old : ℕ → Type 0) (s0 s d f : List ℕ) → State-keeps out old s0 s d f → State-keeps out old s0 (step out s d f).stack (step out s d f).disc (step out s d f).fin
 step_keeps out old s0 [] d f h = h

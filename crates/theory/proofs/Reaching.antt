@@ -1,5 +1,5 @@
--- Ways along a relation, and what stands in lists that are joined or turned round. Assumes nothing.
-use Rattle.std.proofs.Common.{◌≡◌, ℕ, ◌⊎◌, List, [], ◌∷◌, ◌++◌, reverse, refl, subst, inl, inr, ⊎_elim}
+-- Ways along a relation, and what stands in lists that are joined, turned round or mapped. Assumes nothing.
+use Rattle.std.proofs.Common.{◌≡◌, ℕ, ◌⊎◌, List, [], ◌∷◌, ◌++◌, map, reverse, sym, refl, ap, subst, inl, inr, ⊎_elim}
 use mathlib.Core.List.{reverse_aux}
 use Rattle.theory.specs.Edges.{In, Distinct}
 use Rattle.theory.specs.Reach.{Reach, Same, here, more}
@@ -70,10 +70,13 @@ module _ {X : Type 0} where
   pub reverse_distinct : (l : List X) → Distinct l → Distinct (reverse l)
   reverse_distinct l d = pushed_distinct l [] d tt (λ x i z. z)
 
-  Filled : List X → Type 0
-  Filled [] = ⊥
-  Filled (y ∷ l) = Unit {0}
+module _ {X Y : Type 0} (f : X → Y) where
+  pub map_in : (l : List X) (x : X) → In x l → In (f x) (map f l)
+  map_in [] x i = absurd i
+  map_in (y ∷ l) x (inl e) = inl (ap f e)
+  map_in (y ∷ l) x (inr i) = inr (map_in l x i)
 
-  pub cons_nil : (x : X) (l : List X) → x ∷ l ≡ [] → ⊥
-  unfolding Filled
-  cons_nil x l e = subst Filled e tt
+  pub in_map : (l : List X) (y : Y) → In y (map f l) → (x : X) × In x l × (f x ≡ y)
+  in_map [] y i = absurd i
+  in_map (x ∷ l) y (inl e) = (x, inl refl, sym e)
+  in_map (x ∷ l) y (inr i) = let r = in_map l y i in (r.0, inr r.1, r.2)

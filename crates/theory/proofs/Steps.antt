@@ -5,7 +5,6 @@ use Rattle.theory.specs.Components.{GatherGoesBySteps, gather, pull, take}
 use Rattle.theory.specs.Edges.{In}
 use Rattle.theory.specs.Listings.{ShowGoesBySteps, meet, show, shows}
 use Rattle.theory.specs.PostOrder.{RunGoesBySteps, fresh, in?, run, step, visit}
-use Rattle.theory.proofs.Reaching.{cons_nil}
 
 module _ (out : ℕ → List ℕ) where
   run_last : (k : ℕ) (s d f : List ℕ) → run out (suc k) s d f ≡ (let x = run out k s d f in step out x.stack x.disc x.fin)
@@ -21,8 +20,8 @@ module _ (out : ℕ → List ℕ) where
   run_agree : (k m : ℕ) (s d f : List ℕ) → (run out k s d f).stack ≡ [] → (run out m s d f).stack ≡ [] → run out k s d f ≡ run out m s d f
   unfolding run
   run_agree k m [] d f a b = run_idle k d f ∙ sym (run_idle m d f)
-  run_agree zero m (v ∷ s) d f a b = absurd (cons_nil v s a)
-  run_agree (suc k) zero (v ∷ s) d f a b = absurd (cons_nil v s b)
+  run_agree zero m (v ∷ s) d f a b = cc
+  run_agree (suc k) zero (v ∷ s) d f a b = cc
   run_agree (suc k) (suc m) (v ∷ s) d f a b = let x = step out (v ∷ s) d f in run_agree k m x.stack x.disc x.fin a b
 
   visit_new : (v : ℕ) (s d f : List ℕ) (a : Dec (In v d)) (b : Dec (In v f)) → (In v d → ⊥) → visit out v s d f a b ≡ record { stack = fresh (v ∷ d) (out v) ++ (v ∷ s); disc = v ∷ d; fin = f }
@@ -52,8 +51,8 @@ module _ (out : ℕ → List ℕ) where
   gather_agree : (k m : ℕ) (s t g : List ℕ) → (gather out k s t g).stack ≡ [] → (gather out m s t g).stack ≡ [] → gather out k s t g ≡ gather out m s t g
   unfolding gather
   gather_agree k m [] t g a b = gather_idle k t g ∙ sym (gather_idle m t g)
-  gather_agree zero m (v ∷ s) t g a b = absurd (cons_nil v s a)
-  gather_agree (suc k) zero (v ∷ s) t g a b = absurd (cons_nil v s b)
+  gather_agree zero m (v ∷ s) t g a b = cc
+  gather_agree (suc k) zero (v ∷ s) t g a b = cc
   gather_agree (suc k) (suc m) (v ∷ s) t g a b = let x = pull out (v ∷ s) t g in gather_agree k m x.stack x.disc x.fin a b
 
   take_new : (v : ℕ) (s t g : List ℕ) (a : Dec (In v t)) → (In v t → ⊥) → take out v s t g a ≡ record { stack = fresh (v ∷ t) (out v) ++ s; disc = v ∷ t; fin = v ∷ g }
@@ -78,8 +77,8 @@ module _ {X : Type 0} (lst : ℕ → List X) (to : X → ℕ) where
   shows_agree : (k j : ℕ) (s : List X) (m : List ℕ) (h : List X) → (shows lst to k s m h).stack ≡ [] → (shows lst to j s m h).stack ≡ [] → shows lst to k s m h ≡ shows lst to j s m h
   unfolding shows
   shows_agree k j [] m h a b = shows_idle k m h ∙ sym (shows_idle j m h)
-  shows_agree zero j (e ∷ s) m h a b = absurd (cons_nil e s a)
-  shows_agree (suc k) zero (e ∷ s) m h a b = absurd (cons_nil e s b)
+  shows_agree zero j (e ∷ s) m h a b = cc
+  shows_agree (suc k) zero (e ∷ s) m h a b = cc
   shows_agree (suc k) (suc j) (e ∷ s) m h a b = let x = show lst to (e ∷ s) m h in shows_agree k j x.stack x.met x.shown a b
 
   meet_new : (u : ℕ) (s : List X) (m : List ℕ) (h : List X) (a : Dec (In u m)) → (In u m → ⊥) → meet lst u s m h a ≡ record { stack = reverse_aux (lst u) s; met = u ∷ m; shown = h }
