@@ -1,5 +1,6 @@
 -- Sums over the nodes that a set lacks: what a node that is marked takes from them. Assumes nothing.
-use Rattle.std.proofs.Common.{◌≡◌, ℕ, zero, suc, ◌+◌, ◌*◌, ◌<◌, ◌≤◌, Bool, true, false, cond, ◌||◌, eqb, ◌⊎◌, List, length, refl, ap, ◌∙◌, inl, inr, arith}
+use Rattle.std.proofs.Common.{◌≡◌, ℕ, zero, suc, ◌+◌, ◌*◌, ◌<◌, ◌≤◌, Bool, false, cond, ◌||◌, eqb, ◌⊎◌, List, length, refl, ap, ◌∙◌, inl, inr, arith}
+use mathlib.Core.Bool.{or-false}
 use Rattle.std.proofs.lemmas.Bool.{cases_lt, cond-true, cond-false, or_right, eq-eqb, ne_eqb}
 use Rattle.theory.specs.Walk.{mark, edges}
 
@@ -9,11 +10,7 @@ left f d zero = 0
 left f d (suc n) = left f d n + cond (d n) 0 (f n)
 
 mark_other : (d : ℕ → Bool) (x n : ℕ) → (n ≡ x → ⊥) → mark d x n ≡ d n
-mark_other d x n ne = ap (λ v. d n || v) (ne_eqb n x ne) ∙ or-none (d n)
-  where
-    or-none : (b : Bool) → (b || false) ≡ b
-    or-none true = refl
-    or-none false = refl
+mark_other d x n ne = ap (λ v. d n || v) (ne_eqb n x ne) ∙ or-false (d n)
 
 left_past : (f : ℕ → ℕ) (d : ℕ → Bool) (x n : ℕ) → n ≤ x → left f (mark d x) n ≡ left f d n
 left_past f d x zero b = refl

@@ -1,6 +1,7 @@
 -- The walk that shows edges: what each of its steps keeps, and that it shows just the inside edges behind a root, each once. Assumes nothing.
 use Rattle.std.proofs.Common.{◌≡◌, ℕ, zero, suc, ◌+◌, ◌<◌, ◌≤◌, Bool, ◌⊎◌, List, [], ◌∷◌, reverse, length, sym, refl, subst, inl, inr, ⊎_elim, arith}
 use mathlib.Core.List.{reverse_aux}
+use Rattle.std.proofs.Math.ListN.{length-reverse_aux}
 use Rattle.theory.specs.Edges.{Edge, In, Once, within, Distinct}
 use Rattle.theory.specs.Graphs.{Sound, Tied}
 use Rattle.theory.specs.Listings.{Behind, Direction, Link, LinksShowWhatRootsReach, Shows, begin, far, followed, inside, linking, links, meet, near, roots, shows}
@@ -25,10 +26,6 @@ pub record Complete {X : Type 0} (lst : ℕ → List X) (at to : X → ℕ) (rs 
   pub inside : (e : X) → In e h → In e (lst (at e))
   pub behind : (e : X) → In e h → Behind lst to rs (at e)
   pub all : (u : ℕ) (e : X) → In e (lst u) → Behind lst to rs u → In e h
-
-pub pushed_length : {X : Type 0} (l s : List X) → length (reverse_aux l s) ≡ length l + length s
-pushed_length [] s = omega arith
-pushed_length (e ∷ l) s = omega (arith, pushed_length l (e ∷ s))
 
 -- s is stacked, h is shown, d is met
 pub record Linked {X : Type 0} (lst : ℕ → List X) (at to : X → ℕ) (rs : List ℕ) (s : List X) (d : ℕ → Type 0) (h : List X) : Type 0 where
@@ -87,7 +84,7 @@ module _ {X : Type 0} (lst : ℕ → List X) (at to : X → ℕ) (n : ℕ) (ls :
 
   meet_falls : (u : ℕ) (s : List X) (d : List ℕ) (h : List X) (c : Dec (In u d)) → u < n → let x = meet lst u s d h c in length x.stack + weight lst n x.met ≤ length s + weight lst n d
   meet_falls u s d h (yes i) lt = omega arith
-  meet_falls u s d h (no m) lt = omega (arith, pushed_length (lst u) s, weight_falls lst n d u lt m)
+  meet_falls u s d h (no m) lt = omega (arith, length-reverse_aux (lst u) s, weight_falls lst n d u lt m)
 
   -- to ends of what is shown are met
   abbrev Ahead : (d : List ℕ) (h : List X) → Type 0

@@ -1,6 +1,6 @@
 -- By the rule that all edges pass the walk is the post-order walk over lists of far ends, turn for turn. Assumes nothing.
 use Rattle.std.proofs.Common.{◌≡◌, ℕ, zero, suc, Bool, false, cond, eqb, List, [], ◌∷◌, ◌++◌, map, filter, sym, refl, ap, ◌∙◌, inl, inr, ⊎_elim, append_assoc}
-use Rattle.std.proofs.lemmas.Bool.{cases_Bool, or_left}
+use Rattle.std.proofs.lemmas.Bool.{false_from_ne_true, or_left}
 use Rattle.theory.specs.Edges.{In}
 use Rattle.theory.specs.Rules.{every}
 use Rattle.theory.specs.Walk.{Place, place, mark, send, sends, asks, found, after, turn, did, run, order}
@@ -15,7 +15,7 @@ none_kept (x ∷ xs) = none_kept xs
 
 -- what is not in the list is not in the set
 out_of : (a : ℕ → Bool) (l : List ℕ) (x : ℕ) → Alike a l → (In x l → ⊥) → a x ≡ false
-out_of a l x h n = ⊎_elim (λ t. absurd (n ((h x).0 t))) (λ f. f) (cases_Bool (a x))
+out_of a l x h n = false_from_ne_true (a x) (λ t. n ((h x).0 t))
 
 alike_mark : (a : ℕ → Bool) (l : List ℕ) (x : ℕ) → Alike a l → Alike (mark a x) (x ∷ l)
 alike_mark a l x h n = (

@@ -1,7 +1,9 @@
 -- How much room the stacks of the walks want: at most a place for each edge besides what they began with. Assumes nothing.
-use Rattle.std.proofs.Common.{◌≡◌, ℕ, zero, suc, ◌+◌, ◌<◌, ◌≤◌, Bool, List, [], ◌∷◌, ◌++◌, map, length, filter, sym, refl, ap, subst, inl, inr, ⊎_elim, arith, length-append}
+use Rattle.std.proofs.Common.{◌≡◌, ℕ, zero, suc, ◌+◌, ◌<◌, ◌≤◌, Bool, List, [], ◌∷◌, ◌++◌, map, length, sym, refl, ap, subst, inl, inr, ⊎_elim, arith, length-append}
 use native.Mathlib.Decide.{ℕ_discrete}
-use Rattle.std.proofs.lemmas.Bool.{cond_both}
+use Rattle.std.proofs.lemmas.List.{length-map}
+use Rattle.std.proofs.lemmas.List.Sums.{count_by-le-length, length-filter}
+use Rattle.std.proofs.Math.ListN.{length-reverse_aux}
 use Rattle.theory.specs.Components.{GatherFits, StacksFit, pull, take}
 use Rattle.theory.specs.Edges.{Edge, In, Once, within}
 use Rattle.theory.specs.Graphs.{Sound, Tied}
@@ -12,7 +14,7 @@ use Rattle.theory.proofs.Collecting.{gather_keeps}
 use Rattle.theory.proofs.Following.{listed_once, near_at, number_below, one_number}
 use Rattle.theory.proofs.Grounds.{sources_inside, targets_inside}
 use Rattle.theory.proofs.Kept.{at_most}
-use Rattle.theory.proofs.Linking.{Lists, inside_lists, meet_shown, pushed_length}
+use Rattle.theory.proofs.Linking.{Lists, inside_lists, meet_shown}
 use Rattle.theory.proofs.Pushing.{fresh_length}
 use Rattle.theory.proofs.Reaching.{in_cases, in_cast, pushed_in}
 use Rattle.theory.proofs.Rooting.{roots_are_entries}
@@ -152,16 +154,12 @@ module _ {W : Type 0} {node : ℕ → Bool} {bound edges : ℕ} {outs ins : ℕ 
       let few = at_most edges (joined (followed d outs ins) bound) (joined_once bound) (λ e i. let r = joined_in (followed d outs ins) bound e i in number_below s t d r.0 e r.2) in
       omega (arith, joined_length (followed d outs ins) bound)
 
-map_length : {X Y : Type 0} (f : X → Y) (l : List X) → length (map f l) ≡ length l
-map_length f [] = refl
-map_length f (x ∷ l) = ap suc (map_length f l)
-
 share_map : {X Y : Type 0} (f : X → Y) (lst : ℕ → List X) (n : ℕ) (d : List ℕ) → share (λ u. map f (lst u)) n d ≡ share lst n d
 unfolding share
 share_map f lst zero d = refl
 share_map f lst (suc n) d =
     let a = share_map f lst n d in
-    let b = ap (part (in? n d)) (map_length f (lst n)) in
+    let b = ap (part (in? n d)) (length-map (lst n) f) in
     omega arith
 
 share_less : {X : Type 0} (lst less : ℕ → List X) (n : ℕ) (d : List ℕ) → ((u : ℕ) → length (less u) ≤ length (lst u)) → share less n d ≤ share lst n d
@@ -172,12 +170,6 @@ share_less lst less (suc n) d h = let a = share_less lst less n d h in let b = g
     go : {A : Type 0} (c : Dec A) → part c (length (less n)) ≤ part c (length (lst n))
     go (yes i) = omega arith
     go (no i) = h n
-
-kept_length : {X : Type 0} (p : X → Bool) (l : List X) → length (filter p l) ≤ length l
-kept_length p [] = omega arith
-kept_length p (x ∷ l) =
-    let r = kept_length p l in
-    cond_both (p x) (x ∷ filter p l) (filter p l) (λ zs. length zs ≤ length (x ∷ l)) (λ _. omega arith) (λ _. omega arith)
 
 one_below : (n i : ℕ) → i < n → (v : ℕ) → In v (i ∷ []) → v < n
 one_below n i lt v (inl e) = subst (λ z. z < n) (sym e) lt
@@ -203,7 +195,7 @@ module _ {X : Type 0} (lst : ℕ → List X) (at to : X → ℕ) (n : ℕ) (ls :
   meet_room u s d h (yes i) lt r = r
   meet_room u s d h (no m) lt r = (
     λ e i. ⊎_elim (λ j. ls.nodes u e j) (r.0 e) (pushed_in (lst u) s e i),
-    omega (arith, pushed_length (lst u) s, share_falls lst n d u lt m, r.1),
+    omega (arith, length-reverse_aux (lst u) s, share_falls lst n d u lt m, r.1),
   )
 
   begin_room : (rs : List ℕ) (s : List X) (d : List ℕ) → ((r : ℕ) → In r rs → r < n) → Room s d [] → let x = begin lst rs s d in Room x.stack x.met []
@@ -231,6 +223,6 @@ links_fit W node bound edges outs ins s t d p k =
     let b = begin lst rs [] [] in
     let r = shows_room lst (near d) (far d) bound ls k b.stack b.met [] (begin_room lst (near d) (far d) bound ls rs [] [] (roots_are_entries W node bound edges outs ins s t d p).nodes ((λ e z. absurd z), omega arith)) in (
       r.1,
-      let a = share_less (followed d outs ins) lst bound [] (λ u. kept_length (within p) (followed d outs ins u)) in
+      let a = share_less (followed d outs ins) lst bound [] (λ u. omega (arith, length-filter (within p) (followed d outs ins u), count_by-le-length (within p) (followed d outs ins u))) in
           let e = edges_counted s t d in omega arith,
     )
