@@ -19,12 +19,16 @@ kept_in p (y ∷ ys) x (inl e) t = rw (cond-true (p y) (y ∷ filter p ys) (filt
 kept_in p (y ∷ ys) x (inr i) t =
     cond_both (p y) (y ∷ filter p ys) (filter p ys) (λ zs. In x zs) (λ _. inr (kept_in p ys x i t)) (λ _. kept_in p ys x i t)
 
+-- what holds of a list and lasts as the first item goes, and as an item goes before a part of the rest, holds of what is kept
+pub filter_keeps : {X : Type 0} (P : List X → Type 0) (p : X → Bool) → P [] → ((x : X) (xs : List X) → P (x ∷ xs) → P xs)
+    → ((x : X) (xs ys : List X) → P (x ∷ xs) → ((y : X) → In y ys → In y xs) → P ys → P (x ∷ ys)) → (xs : List X) → P xs → P (filter p xs)
+filter_keeps P p none rest more [] h = none
+filter_keeps P p none rest more (x ∷ xs) h =
+    let k = filter_keeps P p none rest more xs (rest x xs h) in
+    cond_both (p x) (x ∷ filter p xs) (filter p xs) P (λ _. more x xs (filter p xs) h (λ y i. (in_kept p xs y i).0) k) (λ _. k)
+
 pub once_kept : {W : Type 0} (p : Edge W → Bool) (es : List (Edge W)) → Once es → Once (filter p es)
-once_kept p [] h = tt
-once_kept p (e ∷ es) h =
-    cond_both (p e) (e ∷ filter p es) (filter p es) (λ zs. Once zs)
-    (λ _. (λ f m same. h.0 f (in_kept p es f m).0 same, once_kept p es h.1))
-    (λ _. once_kept p es h.1)
+once_kept p = filter_keeps Once p tt (λ e es h. h.1) (λ e es fs h sub k. (λ f i. h.0 f (sub f i), k))
 
 -- a filter that all pass keeps all
 pub kept_all : {X : Type 0} (p : X → Bool) (xs : List X) → ((x : X) → In x xs → p x ≡ true) → filter p xs ≡ xs
