@@ -1,22 +1,28 @@
 -- Kosaraju's groups are the components: what is kept from group to group, and where it ends. Assumes nothing.
-use Rattle.std.proofs.Common.{◌≡◌, ℕ, zero, suc, ◌+◌, ◌<◌, ◌≤◌, ◌⊎◌, List, [], ◌∷◌, ◌++◌, reverse, length, sym, refl, subst, inl, inr, ⊎_elim, arith, length-append}
+use Rattle.std.proofs.Common.{◌≡◌, ℕ, ◌+◌, ◌<◌, ◌≤◌, ◌⊎◌, List, [], ◌∷◌, ◌++◌, reverse, length, sym, refl, subst, inl, inr, ⊎_elim, arith}
 use Rattle.theory.specs.Components.{Classes, Components, Onward, collect, components, flat, gather, group, pull, take}
 use Rattle.theory.specs.Edges.{In, Distinct}
-use Rattle.theory.specs.PostOrder.{Post, State, below, fresh, fuel, in?, sweep, weight}
+use Rattle.theory.specs.PostOrder.{Post, below, fresh, fuel, in?, sweep, weight}
 use Rattle.theory.specs.Reach.{Inside, Leads, Reach, Same, Turned, here, more}
 use Rattle.theory.proofs.Finishing.{late}
 use Rattle.theory.proofs.Gathering.{Part, part_all, part_reverse, part_shut, part_skip, part_start, part_take}
 use Rattle.theory.proofs.Pushing.{adds, fresh_length, pushed, weight_falls, weight_most}
 use Rattle.theory.proofs.Reaching.{in_cases, in_left, in_right, reach_turn}
-use Rattle.theory.proofs.PostRunning.{fresh_nodes}
+use Rattle.theory.proofs.PostRunning.{Falls, Nodes, fresh_nodes}
+use Rattle.theory.proofs.Machines.{all_keep, comes_to_end}
+use Rattle.theory.proofs.Steps.{Empty, gather_machine, pull_stays}
 use Rattle.theory.proofs.Sweeping.{sweep_finishes_in_post_order}
 
-pub gather_keeps : (out : ℕ → List ℕ) (P : (s t g : List ℕ) → Type 0) → ((s t g : List ℕ) → P s t g → P (pull out s t g).stack (pull out s t g).disc (pull out s t g).fin) → (k : ℕ) (s t g : List ℕ) → P s t g → P (gather out k s t g).stack (gather out k s t g).disc (gather out k s t g).fin
-unfolding gather
-gather_keeps out P keep zero s t g h = h
-gather_keeps out P keep (suc k) s t g h =
-    let x = pull out s t g in
-    gather_keeps out P keep k x.stack x.disc x.fin (keep s t g h)
+-- a statement on states that every taking keeps is kept by a gathering
+pub gather_keeps : (out : ℕ → List ℕ) (P : (s t g : List ℕ) → Type 0)
+    → ((v : ℕ) (s t g : List ℕ) (a : Dec (In v t)) → P (v ∷ s) t g → P (take out v s t g a).stack (take out v s t g a).disc (take out v s t g a).fin)
+    → (k : ℕ) (s t g : List ℕ) → P s t g → P (gather out k s t g).stack (gather out k s t g).disc (gather out k s t g).fin
+gather_keeps out P keep k s t g h =
+    all_keep (gather_machine out) (λ x. P x.stack x.disc x.fin) (λ x. each x.stack x.disc x.fin) k (record { stack = s; disc = t; fin = g }) h
+  where
+    each : (s t g : List ℕ) → P s t g → P (pull out s t g).stack (pull out s t g).disc (pull out s t g).fin
+    each [] t g p = p
+    each (v ∷ s) t g p = keep v s t g (in? v t) p
 
 once_append : (s t : List ℕ) → Distinct s → Distinct t → ((x : ℕ) → In x s → In x t → ⊥) → Distinct (s ++ t)
 once_append [] t a b n = b
@@ -30,29 +36,21 @@ reach_node out n inside a b h here = h
 reach_node out n inside a b h (more {b = c} r e) = inside c b e
 
 module _ (out : ℕ → List ℕ) (n : ℕ) (inside : Inside n out) where
-  abbrev Falls : (s t : List ℕ) (x : State) → Type 0
-  Falls s t x = ((y : ℕ) → In y x.stack → y < n) × (length x.stack + weight out n x.disc < length s + weight out n t)
-
-  take_falls : (v : ℕ) (s t g : List ℕ) (a : Dec (In v t)) → ((y : ℕ) → In y (v ∷ s) → y < n) → Falls (v ∷ s) t (take out v s t g a)
+  take_falls : (v : ℕ) (s t g : List ℕ) (a : Dec (In v t)) → Nodes n (v ∷ s) → Falls out n inside (v ∷ s) t (take out v s t g a)
   take_falls v s t g (yes j) h = (λ y i. h y (inr i), omega arith)
   take_falls v s t g (no m) h = (
-    λ y i. ⊎_elim (λ j. fresh_nodes out n inside t v y j) (λ j. h y (inr j)) (in_cases y (fresh (v ∷ t) (out v)) s i),
-    omega (arith, length-append (fresh (v ∷ t) (out v)) s, fresh_length (v ∷ t) (out v), weight_falls out n t v (h v (inl refl)) m),
+    fresh_nodes out n inside t v s (λ y i. h y (inr i)),
+    omega (arith, fresh_length (v ∷ t) (out v) s, weight_falls out n t v (h v (inl refl)) m),
   )
 
-  gather_ends : (k : ℕ) (s t g : List ℕ) → ((y : ℕ) → In y s → y < n) → length s + weight out n t ≤ k → (gather out k s t g).stack ≡ []
-  unfolding gather
-  gather_ends zero [] t g h m = refl
-  gather_ends zero (v ∷ s) t g h m = absurd (omega arith)
-  gather_ends (suc k) [] t g h m = rest k t g
-    where
-      rest : (k : ℕ) (t g : List ℕ) → (gather out k [] t g).stack ≡ []
-      rest zero t g = refl
-      rest (suc k) t g = rest k t g
-  gather_ends (suc k) (v ∷ s) t g h m =
-      let x = pull out (v ∷ s) t g in
-      let f = take_falls v s t g (in? v t) h in
-      gather_ends k x.stack x.disc x.fin f.0 (omega (arith, f.1))
+  pull_falls : (s t g : List ℕ) → Nodes n s → (s ≡ []) ⊎ Falls out n inside s t (pull out s t g)
+  pull_falls [] t g h = inl refl
+  pull_falls (v ∷ s) t g h = inr (take_falls v s t g (in? v t) h)
+
+  gather_ends : (k : ℕ) (s t g : List ℕ) → Nodes n s → length s + weight out n t ≤ k → (gather out k s t g).stack ≡ []
+  gather_ends k s t g h m =
+      (comes_to_end (gather_machine out) Empty (pull_stays out) (λ x. Nodes n x.stack) (λ x. length x.stack + weight out n x.disc)
+      (λ x. pull_falls x.stack x.disc x.fin) k (record { stack = s; disc = t; fin = g }) h m).0
 
   abbrev Parts : (t0 : List ℕ) (x : ℕ) (s t g : List ℕ) → Type 0
   Parts t0 x s t g = Part out (λ y. In y t0) (λ y. In y t) x s g
@@ -61,15 +59,11 @@ module _ (out : ℕ → List ℕ) (n : ℕ) (inside : Inside n out) where
   take_part t0 x v s t g (yes j) p = part_skip out (λ y. In y t0) x (λ y. In y t) v s g p j
   take_part t0 x v s t g (no m) p = part_take out (λ y. In y t0) x (λ y. In y t) (λ y. In y (v ∷ t)) v s g (fresh (v ∷ t) (out v)) p m (adds t v) (pushed out t v)
 
-  pull_part : (t0 : List ℕ) (x : ℕ) (s t g : List ℕ) → Parts t0 x s t g → Parts t0 x (pull out s t g).stack (pull out s t g).disc (pull out s t g).fin
-  pull_part t0 x [] t g p = p
-  pull_part t0 x (v ∷ s) t g p = take_part t0 x v s t g (in? v t) p
-
   gathered : (k : ℕ) → fuel out n ≤ k → (x : ℕ) (t : List ℕ) → x < n → ((u w : ℕ) → In u t → In w (out u) → In w t) → let y = gather out k (x ∷ []) t [] in Parts t x [] y.disc y.fin
   unfolding fuel
   gathered k m x t lt c =
       let y = gather out k (x ∷ []) t [] in
-      let p = gather_keeps out (Parts t x) (pull_part t x) k (x ∷ []) t [] (part_start out (λ z. In z t) x c) in
+      let p = gather_keeps out (Parts t x) (take_part t x) k (x ∷ []) t [] (part_start out (λ z. In z t) x c) in
       let ends = gather_ends k (x ∷ []) t [] (λ z. ⊎_elim (λ e. subst (λ a. a < n) (sym e) lt) (λ a. absurd a)) (omega (arith, weight_most out n t)) in
       subst (λ s. Parts t x s y.disc y.fin) ends p
 

@@ -27,10 +27,11 @@ module _ {S : Type 0} {turn : S → S} {run : ℕ → S → S} (m : Machine turn
     ended_agree (suc k) (suc j) x a b =
         m.more k x ∙ ended_agree k j (turn x) (subst Ends (m.more k x) a) (subst Ends (m.more j x) b) ∙ sym (m.more j x)
 
-    -- with as many turns as the size it ends
-    pub comes_to_end : (Good : S → Type 0) (size : S → ℕ) → ((x : S) → Good x → Ends x ⊎ (Good (turn x) × (size (turn x) < size x))) → (k : ℕ) (x : S) → Good x → size x ≤ k → Ends (run k x)
-    comes_to_end Good size falls zero x g b = elim (falls x g) [ inl e ↦ subst Ends (sym (idle 0 x e)) e | inr n ↦ absurd (omega (arith, n.1)) ]
+    -- with as many turns as the size it ends, in a good state
+    pub comes_to_end : (Good : S → Type 0) (size : S → ℕ) → ((x : S) → Good x → Ends x ⊎ (Good (turn x) × (size (turn x) < size x)))
+        → (k : ℕ) (x : S) → Good x → size x ≤ k → Ends (run k x) × Good (run k x)
+    comes_to_end Good size falls zero x g b = subst (λ y. Ends y × Good y) (sym (m.none x)) (elim (falls x g) [ inl e ↦ (e, g) | inr n ↦ absurd (omega (arith, n.1)) ])
     comes_to_end Good size falls (suc k) x g b = elim (falls x g) [
-      | inl e ↦ subst Ends (sym (idle (suc k) x e)) e
-      | inr n ↦ subst Ends (sym (m.more k x)) (comes_to_end Good size falls k (turn x) n.0 (omega (arith, n.1)))
+      | inl e ↦ subst (λ y. Ends y × Good y) (sym (idle (suc k) x e)) (e, g)
+      | inr n ↦ subst (λ y. Ends y × Good y) (sym (m.more k x)) (comes_to_end Good size falls k (turn x) n.0 (omega (arith, n.1)))
     ]

@@ -2,7 +2,7 @@
 use Rattle.std.proofs.Common.{◌≡◌, ℕ, ◌⊎◌, List, [], ◌∷◌, subst, inl, inr, ⊎_elim}
 use Rattle.theory.specs.Edges.{In, Distinct}
 use Rattle.theory.specs.Listings.{inside}
-use Rattle.theory.specs.PostOrder.{Via, WalkFinishesWhatItReaches, in?, run, step}
+use Rattle.theory.specs.PostOrder.{Via, WalkFinishesWhatItReaches, in?, run}
 use Rattle.theory.specs.Reach.{Leads, Reach, here, more}
 use Rattle.theory.proofs.PostRunning.{State-keeps, run_ends, run_keeps, visit_keeps}
 use Rattle.theory.proofs.PostWalking.{Cov, Told, Walk}
@@ -33,10 +33,6 @@ module _ (out : ℕ → List ℕ) (old : ℕ → Type 0) where
   walk_end d [] f (g ∷ p) e w v h = absurd w.lay
   walk_end d (x ∷ s) f p e w v h = cc
 
-step_keeps : (out : ℕ → List ℕ) (old : ℕ → Type 0) (s0 s d f : List ℕ) → State-keeps out old s0 s d f → State-keeps out old s0 (step out s d f).stack (step out s d f).disc (step out s d f).fin
-step_keeps out old s0 [] d f h = h
-step_keeps out old s0 (v ∷ s) d f h = visit_keeps out old s0 v s d f (in? v d) (in? v f) h
-
 pub walk_finishes_what_it_reaches : WalkFinishesWhatItReaches
 walk_finishes_what_it_reaches out n inside s d f nodes a b o k m =
     let old : ℕ → Type 0 = λ u. In u f in
@@ -45,7 +41,7 @@ walk_finishes_what_it_reaches out n inside s d f nodes a b o k m =
       ([], walk_start out old (λ v. In v d) s f a b (λ v i. inl i) o),
       record { found = λ v i. inl (a v i); aimed = λ v i. aim v i (in? v f); kept = b; begun = λ v i. inr i },
     ) in
-    let kept = run_keeps out (State-keeps out old s) (step_keeps out old s) k s d f start in
+    let kept = run_keeps out (State-keeps out old s) (visit_keeps out old s) k s d f start in
     let ends = run_ends out n inside k s d f nodes m in
     let w = kept.0.1 in
     let same : (v : ℕ) → In v x.disc → In v x.fin = walk_end out old (λ v. In v x.disc) x.stack x.fin kept.0.0 ends w in

@@ -1,5 +1,5 @@
 -- What is pushed for a node, and how the count of turns that are left falls with each node discovered. Assumes nothing.
-use Rattle.std.proofs.Common.{◌≡◌, ℕ, suc, ◌+◌, ◌<◌, ◌≤◌, ◌⊎◌, List, [], ◌∷◌, length, sym, refl, inl, inr, ⊎_elim, arith, length-append}
+use Rattle.std.proofs.Common.{◌≡◌, ℕ, suc, ◌+◌, ◌<◌, ◌≤◌, ◌⊎◌, List, [], ◌∷◌, ◌++◌, length, sym, refl, inl, inr, ⊎_elim, arith, length-append}
 use Rattle.theory.specs.Edges.{In}
 use Rattle.theory.specs.PostOrder.{fresh, in?, unless, weight}
 use Rattle.theory.proofs.Reaching.{in_cases, in_cast, in_left, in_right}
@@ -46,10 +46,13 @@ unless_length : {A : Type 0} (c : Dec A) (w : ℕ) → length (unless c w) ≤ 1
 unless_length (yes h) w = omega arith
 unless_length (no n) w = omega arith
 
-pub fresh_length : (d ws : List ℕ) → length (fresh d ws) ≤ length ws
-fresh_length d [] = omega arith
-fresh_length d (w ∷ ws) =
-    omega (arith, length-append (fresh d ws) (unless (in? w d) w), unless_length (in? w d) w, fresh_length d ws)
+-- what a node pushes over a stack is no more than its far ends
+pub fresh_length : (d ws s : List ℕ) → length (fresh d ws ++ s) ≤ length ws + length s
+fresh_length d ws s = omega (arith, length-append (fresh d ws) s, few ws)
+  where
+    few : (ws : List ℕ) → length (fresh d ws) ≤ length ws
+    few [] = omega arith
+    few (w ∷ ws) = omega (arith, length-append (fresh d ws) (unless (in? w d) w), unless_length (in? w d) w, few ws)
 
 module _ {X : Type 0} (out : ℕ → List X) where
   -- the weight falls by a discovered node's share

@@ -3,11 +3,11 @@ use Rattle.std.proofs.Common.{◌≡◌, ℕ, zero, suc, ◌+◌, ◌<◌, ◌�
 use Rattle.std.proofs.lemmas.List.{length-map}
 use Rattle.std.proofs.lemmas.List.Sums.{count_by-le-length, length-filter}
 use Rattle.std.proofs.Math.ListN.{length-reverse_aux}
-use Rattle.theory.specs.Components.{GatherFits, StacksFit, pull, take}
+use Rattle.theory.specs.Components.{GatherFits, StacksFit, take}
 use Rattle.theory.specs.Edges.{Edge, In, Once, within}
 use Rattle.theory.specs.Graphs.{Sound, Tied}
 use Rattle.theory.specs.Listings.{Direction, Forward, LinksFit, Reverse, begin, far, followed, inside, meet, near, roots, shows}
-use Rattle.theory.specs.PostOrder.{StackFits, fresh, in?, share, step, visit}
+use Rattle.theory.specs.PostOrder.{StackFits, in?, share, visit}
 use Rattle.theory.specs.Reach.{Inside, sources, targets}
 use Rattle.theory.specs.Walk as walk
 use Rattle.theory.proofs.Collecting.{gather_keeps}
@@ -19,7 +19,7 @@ use Rattle.theory.proofs.Linking.{Lists, inside_lists, meet_shown}
 use Rattle.theory.proofs.Pushing.{fresh_length}
 use Rattle.theory.proofs.Reaching.{in_cases, pushed_in}
 use Rattle.theory.proofs.Rooting.{roots_are_entries}
-use Rattle.theory.proofs.PostRunning.{fresh_nodes, run_keeps}
+use Rattle.theory.proofs.PostRunning.{Nodes, fresh_nodes, run_keeps}
 
 module _ {X : Type 0} (out : ℕ → List X) where
   pub share_falls : (n : ℕ) (d : List ℕ) (v : ℕ) → v < n → (In v d → ⊥) → share out n (v ∷ d) + length (out v) ≡ share out n d
@@ -32,38 +32,30 @@ module _ {X : Type 0} (out : ℕ → List X) where
 
 module _ (out : ℕ → List ℕ) (n : ℕ) (inside : Inside n out) (m : ℕ) where
   abbrev Fit : (s d f : List ℕ) → Type 0
-  Fit s d f = ((v : ℕ) → In v s → v < n) × (length s + share out n d ≤ m)
+  Fit s d f = Nodes n s × (length s + share out n d ≤ m)
 
   visit_fit : (v : ℕ) (s d f : List ℕ) (a : Dec (In v d)) (b : Dec (In v f)) → Fit (v ∷ s) d f → Fit (visit out v s d f a b).stack (visit out v s d f a b).disc (visit out v s d f a b).fin
   visit_fit v s d f (no k) b h = (
-    λ y i. ⊎_elim (λ j. fresh_nodes out n inside d v y j) (λ j. h.0 y j) (in_cases y (fresh (v ∷ d) (out v)) (v ∷ s) i),
-    omega (arith, length-append (fresh (v ∷ d) (out v)) (v ∷ s), fresh_length (v ∷ d) (out v), share_falls out n d v (h.0 v (inl refl)) k, h.1),
+    fresh_nodes out n inside d v (v ∷ s) h.0,
+    omega (arith, fresh_length (v ∷ d) (out v) (v ∷ s), share_falls out n d v (h.0 v (inl refl)) k, h.1),
   )
   visit_fit v s d f (yes i) (yes j) h = (λ y k. h.0 y (inr k), omega (arith, h.1))
   visit_fit v s d f (yes i) (no j) h = (λ y k. h.0 y (inr k), omega (arith, h.1))
 
-  step_fit : (s d f : List ℕ) → Fit s d f → Fit (step out s d f).stack (step out s d f).disc (step out s d f).fin
-  step_fit [] d f h = h
-  step_fit (v ∷ s) d f h = visit_fit v s d f (in? v d) (in? v f) h
-
   take_fit : (v : ℕ) (s t g : List ℕ) (a : Dec (In v t)) → Fit (v ∷ s) t g → Fit (take out v s t g a).stack (take out v s t g a).disc (take out v s t g a).fin
   take_fit v s t g (yes i) h = (λ y k. h.0 y (inr k), omega (arith, h.1))
   take_fit v s t g (no k) h = (
-    λ y i. ⊎_elim (λ j. fresh_nodes out n inside t v y j) (λ j. h.0 y (inr j)) (in_cases y (fresh (v ∷ t) (out v)) s i),
-    omega (arith, length-append (fresh (v ∷ t) (out v)) s, fresh_length (v ∷ t) (out v), share_falls out n t v (h.0 v (inl refl)) k, h.1),
+    fresh_nodes out n inside t v s (λ y i. h.0 y (inr i)),
+    omega (arith, fresh_length (v ∷ t) (out v) s, share_falls out n t v (h.0 v (inl refl)) k, h.1),
   )
-
-  pull_fit : (s t g : List ℕ) → Fit s t g → Fit (pull out s t g).stack (pull out s t g).disc (pull out s t g).fin
-  pull_fit [] t g h = h
-  pull_fit (v ∷ s) t g h = take_fit v s t g (in? v t) h
 
 pub stack_fits : StackFits
 stack_fits out n inside k s d f nodes =
-    (run_keeps out (Fit out n inside (length s + share out n d)) (step_fit out n inside (length s + share out n d)) k s d f (nodes, omega arith)).1
+    (run_keeps out (Fit out n inside (length s + share out n d)) (visit_fit out n inside (length s + share out n d)) k s d f (nodes, omega arith)).1
 
 pub gather_fits : GatherFits
 gather_fits out n inside k s t g nodes =
-    (gather_keeps out (Fit out n inside (length s + share out n t)) (pull_fit out n inside (length s + share out n t)) k s t g (nodes, omega arith)).1
+    (gather_keeps out (Fit out n inside (length s + share out n t)) (take_fit out n inside (length s + share out n t)) k s t g (nodes, omega arith)).1
 
 -- the edges of the lists of the nodes below n in one list
 abbrev joined : {X : Type 0} → (ℕ → List X) → ℕ → List X

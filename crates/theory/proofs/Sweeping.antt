@@ -2,7 +2,7 @@
 use Rattle.std.proofs.Common.{◌≡◌, ℕ, zero, suc, ◌<◌, ◌≤◌, ◌⊎◌, List, [], ◌∷◌, ◌++◌, sym, refl, subst, inl, inr, ⊎_elim, arith}
 use native.Mathlib.Decide.{ℕ_discrete}
 use Rattle.theory.specs.Edges.{In, Distinct}
-use Rattle.theory.specs.PostOrder.{Post, SweepFinishesInPostOrder, below, fresh, fuel, in?, run, step, sweep, visit, walk_from}
+use Rattle.theory.specs.PostOrder.{Post, SweepFinishesInPostOrder, below, fresh, fuel, in?, run, sweep, visit, walk_from}
 use Rattle.theory.specs.Reach.{Inside}
 use Rattle.theory.proofs.Finishing.{post_step}
 use Rattle.theory.proofs.Pushing.{adds, pushed, weight_most}
@@ -60,7 +60,7 @@ module _ (out : ℕ → List ℕ) (n : ℕ) (inside : Inside n out) where
         post = h.post;
         keep = h.keep;
         begun = ⊎_elim (λ j. inl (inr j)) (λ j. inr (in_right i l (v ∷ s) j)) h.begun;
-        stacked = λ y j. ⊎_elim (λ k. fresh_nodes out n inside d v y k) (λ k. h.stacked y k) (in_cases y l (v ∷ s) j);
+        stacked = fresh_nodes out n inside d v (v ∷ s) h.stacked;
         nodes = h.nodes;
       }
   visit_trip f0 i v s d f (yes j) (yes k) h = record {
@@ -83,10 +83,6 @@ module _ (out : ℕ → List ℕ) (n : ℕ) (inside : Inside n out) where
         nodes = λ y. ⊎_elim (λ e. subst (λ z. z < n) (sym e) (h.stacked v (inl refl))) (h.nodes y);
       }
 
-  step_trip : (f0 : List ℕ) (i : ℕ) (s d f : List ℕ) → Trip out n f0 i s d f → Trip out n f0 i (step out s d f).stack (step out s d f).disc (step out s d f).fin
-  step_trip f0 i [] d f h = h
-  step_trip f0 i (v ∷ s) d f h = visit_trip f0 i v s d f (in? v d) (in? v f) h
-
   from_rest : (k : ℕ) → fuel out n ≤ k → (i : ℕ) → i < n → (d f : List ℕ) (c : Dec (In i d)) → Rest out n d f → let x = walk_from out k i d f c in Rest out n x.disc x.fin × ((y : ℕ) → In y f → In y x.fin) × In i x.fin
   unfolding fuel
   from_rest k m i lt d f (yes j) h = (h, λ y a. a, h.same i j)
@@ -100,7 +96,7 @@ module _ (out : ℕ → List ℕ) (n : ℕ) (inside : Inside n out) where
         stacked = λ y. ⊎_elim (λ e. subst (λ z. z < n) (sym e) lt) (λ z. absurd z);
         nodes = h.nodes;
       } in
-      let t = run_keeps out (Trip out n f i) (step_trip f i) k (i ∷ []) d f start in
+      let t = run_keeps out (Trip out n f i) (visit_trip f i) k (i ∷ []) d f start in
       let ends = run_ends out n inside k (i ∷ []) d f start.stacked (omega (arith, weight_most out n d)) in
       let w = t.walk.1 in
       let same : (v : ℕ) → In v x.disc → In v x.fin = walk_end out nobody (λ v. In v x.disc) x.stack x.fin t.walk.0 ends w in (
