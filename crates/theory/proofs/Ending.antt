@@ -1,7 +1,7 @@
 -- Each turn leaves less to do, so that over a finite graph each step of a walk comes to an end, and enough turns come to the
 -- empty stack; and the room that they take.
 -- Assumes nothing.
-use Rattle.std.proofs.Common.{◌≡◌, ℕ, zero, suc, ◌+◌, ◌*◌, ◌<◌, ◌≤◌, Bool, false, List, [], ◌∷◌, length, Some, None, Option, sym, refl, ap, ◌∙◌, subst, inl, inr, ⊎_elim, arith}
+use Rattle.std.proofs.Common.{◌≡◌, ℕ, zero, suc, ◌+◌, ◌*◌, ◌<◌, ◌≤◌, Bool, false, ◌⊎◌, List, [], ◌∷◌, length, Some, None, Option, sym, refl, ap, ◌∙◌, subst, inl, inr, ⊎_elim, arith}
 use Rattle.std.proofs.lemmas.List.{length-reverse, nil_from_length}
 use Rattle.theory.specs.Edges.{In}
 use Rattle.theory.specs.Rules.{Rule, stays_at, Fair}
@@ -14,17 +14,13 @@ use Rattle.theory.proofs.Looking.{turn_cases}
 use Rattle.theory.proofs.Looking.Turns.{ended, saw, passed, closed}
 use Rattle.theory.proofs.Walking.{walk_keeps, over_is, in_start, sent_at, answered_at}
 use Rattle.theory.proofs.Left.{left, left_mark, left_edges, left_twice, left_turns}
-use Rattle.theory.proofs.Running.{run_keeps}
+use Rattle.theory.proofs.Machines.{comes_to_end}
+use Rattle.theory.proofs.Running.{run_keeps, walk_machine}
 
 length_start : (xs : List ℕ) → length (over xs []) ≡ length xs
 length_start xs = ap length (over_is xs []) ∙ length-reverse xs
 
 module _ {E : Type 0} (lst : ℕ → List E) (far : E → ℕ) (r : Rule E) where
-  rests : (k : ℕ) (s : Place E) → s.stack ≡ [] → (run lst far r k s).stack ≡ []
-  unfolding run
-  rests zero s e = e
-  rests (suc k) s e = rests k (turn lst far r s) (ap (λ v. (look lst far r v s).stack) e ∙ e)
-
   module _ (fair : Fair r) (n : ℕ) (ends_below : (u : ℕ) (e : E) → u < n → In e (lst u) → far e < n) where
     -- the walk stays below n
     record Below (s : Place E) : Type 0 where
@@ -75,19 +71,16 @@ module _ {E : Type 0} (lst : ℕ → List E) (far : E → ℕ) (r : Rule E) wher
     effort_less : (s : Place E) (x : ℕ) (st : List ℕ) (f : ℕ → Bool) → s.stack ≡ x ∷ st → effort (place st s.seen f s.held) < effort s
     effort_less s x st f e = let q = ap length e in omega arith
 
-    less_to_do : (k : ℕ) (s t : Place E) → ((u : Place E) → Below u → effort u ≤ k → (run lst far r k u).stack ≡ []) → turn lst far r s ≡ t → effort s ≤ suc k → Below t → effort t < effort s → (run lst far r k (turn lst far r s)).stack ≡ []
-    less_to_do k s t ih q m b l = subst (λ v. (run lst far r k v).stack ≡ []) (sym q) (ih t b (omega arith))
-
-    comes_to_end : (k : ℕ) (s : Place E) → Below s → effort s ≤ k → (run lst far r k s).stack ≡ []
-    unfolding run
-    comes_to_end zero s b m = nil_from_length s.stack (omega arith)
-    comes_to_end (suc k) s b m =
-        elim (turn_cases lst far r s) [
-          | ended e a q ↦ rests k (turn lst far r s) (ap (λ v. v.stack) q ∙ e)
-          | saw x st e y a q ↦ less_to_do k s (found lst far r x s) (comes_to_end k) q m (below_found s x st e b) (effort_found s x st e y b)
-          | passed x st e y z a q ↦ less_to_do k s (dropped st s) (comes_to_end k) q m (below_less s x st s.done e b) (effort_less s x st s.done e)
-          | closed x st e y z a q ↦ less_to_do k s (finished x st s) (comes_to_end k) q m (below_less s x st (mark s.done x) e b) (effort_less s x st (mark s.done x) e)
-        ]
+    falls : (s : Place E) → Below s → (s.stack ≡ []) ⊎ (Below (turn lst far r s) × (effort (turn lst far r s) < effort s))
+    falls s b = elim (turn_cases lst far r s) [
+      | ended e a q ↦ inl e
+      | saw x st e y a q ↦ inr (less q (below_found s x st e b) (effort_found s x st e y b))
+      | passed x st e y z a q ↦ inr (less q (below_less s x st s.done e b) (effort_less s x st s.done e))
+      | closed x st e y z a q ↦ inr (less q (below_less s x st (mark s.done x) e b) (effort_less s x st (mark s.done x) e))
+    ]
+      where
+        less : {t : Place E} → turn lst far r s ≡ t → Below t → effort t < effort s → Below (turn lst far r s) × (effort (turn lst far r s) < effort s)
+        less q c l = subst (λ v. Below v × (effort v < effort s)) (sym q) (c, l)
 
     -- with so much to do a step comes to an end
     ends_step : (k : ℕ) (s : Place E) → Below s → effort s ≤ k → (a : Option ℕ) × (t : Place E) × Step lst far r a t s
@@ -153,7 +146,8 @@ module _ {E : Type 0} (lst : ℕ → List E) (far : E → ℕ) (r : Rule E) wher
     run_ends k m =
         let a = length_start initials in
         let b = left_turns lst n in
-        comes_to_end fair n fin.ends k (start initials) (below_start fair n fin.ends initials fin.starts) (omega arith)
+        (comes_to_end (walk_machine lst far r) (λ s. s.stack ≡ []) (λ s e. ap (λ v. look lst far r v s) e) (Below fair n fin.ends) (effort fair n fin.ends)
+        (falls fair n fin.ends) k (start initials) (below_start fair n fin.ends initials fin.starts) (omega arith)).0
 
     pub step_exists : (xs : List ℕ) (s : Place E) → Walks lst far r (start initials) xs s → (a : Option ℕ) × (t : Place E) × Step lst far r a t s
     step_exists xs s w =
