@@ -3,7 +3,7 @@ use Rattle.std.proofs.Common.{◌≡◌, ℕ, zero, suc, ◌+◌, ◌/◌, ◌%�
 use mathlib.Core.Bool.{and-true, or-false}
 use native.Mathlib.Nat.{pow-zero}
 use lib.Count.{ones, ones_step}
-use Rattle.std.proofs.lemmas.Bool.{cases_eq, cases_lt, eq-eqb, ne_eqb, or_right}
+use Rattle.std.proofs.lemmas.Bool.{both_ways, cases_eq, cases_lt, eq-eqb, ne_eqb, or_right}
 use Rattle.std.proofs.lemmas.List.Elements.{filter-append}
 use Rattle.theory.specs.PostOrder.{below}
 use Rattle.theory.proofs.Kept.{in_kept, kept_in}
@@ -158,7 +158,4 @@ listing_lists p n stop = record {
 }
   where
     small : (k : ℕ) → p k ≡ true → k < n
-    small k t = elim (cases_lt k n) [
-      | inl l ↦ l
-      | inr l ↦ let f : p k ≡ false = stop k l in let z : ◌≡◌ {A = ℕ} 0 1 = cc in absurd (omega arith)
-    ]
+    small k t = elim (cases_lt k n) [ inl l ↦ l | inr l ↦ absurd (both_ways (p k) (stop k l) t) ]
