@@ -1,6 +1,6 @@
 -- What a filter keeps of a list of edges, and that edges of different numbers below n are at most n. Assumes nothing.
-use Rattle.std.proofs.Common.{◌≡◌, ℕ, zero, suc, ◌+◌, ◌<◌, ◌≤◌, Bool, true, not, eqb, List, [], ◌∷◌, length, filter, sym, refl, ap, ◌∙◌, inl, inr, arith}
-use Rattle.std.proofs.lemmas.Bool.{cond_both, cond-true, eqb-true, eqb-false, not-true, not-false, ne_eqb, not_from_false}
+use Rattle.std.proofs.Common.{◌≡◌, ℕ, zero, suc, ◌+◌, ◌<◌, ◌≤◌, Bool, true, false, cond, not, eqb, List, [], ◌∷◌, length, filter, sym, refl, ap, ap₂, ◌∙◌, inl, inr, arith}
+use Rattle.std.proofs.lemmas.Bool.{cond_both, cond-true, cond-false, eqb-true, eqb-false, not-true, not-false, ne_eqb, not_from_false}
 use Rattle.theory.specs.Edges.{Edge, In, Once}
 
 -- what is kept stood there, and passes
@@ -30,7 +30,15 @@ filter_keeps P p none rest more (x ∷ xs) h =
 pub once_kept : {W : Type 0} (p : Edge W → Bool) (es : List (Edge W)) → Once es → Once (filter p es)
 once_kept p = filter_keeps Once p tt (λ e es h. h.1) (λ e es fs h sub k. (λ f i. h.0 f (sub f i), k))
 
--- a filter that all pass keeps all
+-- tests that agree keep the same, a filter that none passes keeps none, and one that all pass keeps all
+pub kept_same : {X : Type 0} (p q : X → Bool) (xs : List X) → ((x : X) → In x xs → p x ≡ q x) → filter p xs ≡ filter q xs
+kept_same p q [] h = refl
+kept_same p q (y ∷ ys) h = ap₂ (λ b zs. cond b (y ∷ zs) zs) (h y (inl refl)) (kept_same p q ys (λ x i. h x (inr i)))
+
+pub kept_none : {X : Type 0} (p : X → Bool) (xs : List X) → ((x : X) → In x xs → p x ≡ false) → filter p xs ≡ []
+kept_none p [] h = refl
+kept_none p (y ∷ ys) h = cond-false (p y) (y ∷ filter p ys) (filter p ys) (h y (inl refl)) ∙ kept_none p ys (λ x i. h x (inr i))
+
 pub kept_all : {X : Type 0} (p : X → Bool) (xs : List X) → ((x : X) → In x xs → p x ≡ true) → filter p xs ≡ xs
 kept_all p [] h = refl
 kept_all p (y ∷ ys) h =
