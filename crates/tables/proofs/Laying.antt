@@ -43,24 +43,30 @@ module _ (ws vs : List ℕ) (nodes e s t : ℕ) (words : List ℕ) (l : Laid ws 
       let r = l.old (2 * nodes + 8 * j + 6) (omega arith) (omega arith) in
       let u = l.old (2 * nodes + 8 * j + 7) (omega arith) (omega arith) in cc
 
+  -- the heads of the chains by one end: w before, v now; the new edge has x there
+  heads : (f g w v : ℕ → ℕ) (x : ℕ) → ((j : ℕ) → j < e → g j ≡ f j) → g e ≡ x → v x ≡ e + 1 → ((n : ℕ) → n < nodes → (n ≡ x → ⊥) → v n ≡ w n)
+      → ((n : ℕ) → n < nodes → Last f e n (w n)) → (n : ℕ) → n < nodes → Last g (e + 1) n (v n)
+  heads f g w v x same is new others old n b = elim (cases_eq n x) [
+    | inl q ↦ subst (λ h. Last g (e + 1) n h) (sym (ap v q ∙ new)) (head_new f g e same n (is ∙ sym q))
+    | inr ne ↦ subst (λ h. Last g (e + 1) n h) (sym (others n b ne)) (head_other f g e same n (w n) (λ q. ne (sym q ∙ is)) (old n b))
+  ]
+
+  -- the next links of the chains by that end
+  nexts : (f g w v : ℕ → ℕ) (x h : ℕ) → ((j : ℕ) → j < e → g j ≡ f j) → g e ≡ x → v e ≡ h → ((k : ℕ) → k < e → v k ≡ w k)
+      → ((k : ℕ) → k < e → Last f k (f k) (w k)) → Last f e x h → (k : ℕ) → k < e + 1 → Last g k (g k) (v k)
+  nexts f g w v x h same is new others old last =
+      below_more (λ k. Last g k (g k) (v k)) e (λ k b. link_old f g e same k b (w k) (v k) (others k b) (old k b)) (link_new f g e same x h (v e) is new last)
+
   pub laid_chains : Chains ws nodes e → Chains vs nodes (e + 1)
   laid_chains c = record {
     source = below_more (λ k. source_at vs nodes k < nodes) e (λ k b. let p = same_source k b in let q = c.source k b in omega arith) (let p = l.source in omega arith);
     target = below_more (λ k. target_at vs nodes k < nodes) e (λ k b. let p = same_target k b in let q = c.target k b in omega arith) (let p = l.target in omega arith);
-    outs = λ n b. elim (cases_eq n s) [
-      | inl q ↦ subst (λ h. Last (source_at vs nodes) (e + 1) n h) (sym (ap (λ x. get_or vs (2 * x) 0) q ∙ l.head_out)) (head_new (source_at ws nodes) (source_at vs nodes) e same_source n (l.source ∙ sym q))
-      | inr ne ↦ subst (λ h. Last (source_at vs nodes) (e + 1) n h) (sym (l.outs n b ne)) (head_other (source_at ws nodes) (source_at vs nodes) e same_source n _ (λ q. ne (sym q ∙ l.source)) (c.outs n b))
-    ];
-    ins = λ n b. elim (cases_eq n t) [
-      | inl q ↦ subst (λ h. Last (target_at vs nodes) (e + 1) n h) (sym (ap (λ x. get_or vs (2 * x + 1) 0) q ∙ l.head_in)) (head_new (target_at ws nodes) (target_at vs nodes) e same_target n (l.target ∙ sym q))
-      | inr ne ↦ subst (λ h. Last (target_at vs nodes) (e + 1) n h) (sym (l.ins n b ne)) (head_other (target_at ws nodes) (target_at vs nodes) e same_target n _ (λ q. ne (sym q ∙ l.target)) (c.ins n b))
-    ];
-    next_out = below_more (λ k. Last (source_at vs nodes) k (source_at vs nodes k) (get_or vs (2 * nodes + 8 * k + 2) 0)) e
-        (λ k b. link_old (source_at ws nodes) (source_at vs nodes) e same_source k b _ _ (l.old (2 * nodes + 8 * k + 2) (omega arith) (omega arith)) (c.next_out k b))
-        (link_new (source_at ws nodes) (source_at vs nodes) e same_source s _ _ l.source l.next_out (c.outs s s_in));
-    next_in = below_more (λ k. Last (target_at vs nodes) k (target_at vs nodes k) (get_or vs (2 * nodes + 8 * k + 3) 0)) e
-        (λ k b. link_old (target_at ws nodes) (target_at vs nodes) e same_target k b _ _ (l.old (2 * nodes + 8 * k + 3) (omega arith) (omega arith)) (c.next_in k b))
-        (link_new (target_at ws nodes) (target_at vs nodes) e same_target t _ _ l.target l.next_in (c.ins t t_in));
+    outs = heads (source_at ws nodes) (source_at vs nodes) (λ n. get_or ws (2 * n) 0) (λ n. get_or vs (2 * n) 0) s same_source l.source l.head_out l.outs c.outs;
+    ins = heads (target_at ws nodes) (target_at vs nodes) (λ n. get_or ws (2 * n + 1) 0) (λ n. get_or vs (2 * n + 1) 0) t same_target l.target l.head_in l.ins c.ins;
+    next_out = nexts (source_at ws nodes) (source_at vs nodes) (λ k. get_or ws (2 * nodes + 8 * k + 2) 0) (λ k. get_or vs (2 * nodes + 8 * k + 2) 0) s _
+        same_source l.source l.next_out (λ k b. l.old (2 * nodes + 8 * k + 2) (omega arith) (omega arith)) c.next_out (c.outs s s_in);
+    next_in = nexts (target_at ws nodes) (target_at vs nodes) (λ k. get_or ws (2 * nodes + 8 * k + 3) 0) (λ k. get_or vs (2 * nodes + 8 * k + 3) 0) t _
+        same_target l.target l.next_in (λ k b. l.old (2 * nodes + 8 * k + 3) (omega arith) (omega arith)) c.next_in (c.ins t t_in);
   }
 
   pub laid_edges : {W : Type 0} (held : List ℕ → W) (w : W) → length words ≡ 4 → held words ≡ w → laid held vs nodes (e + 1) ≡ record { source = s; target = t; number = e; weight = w } ∷ laid held ws nodes e
