@@ -7,7 +7,7 @@ use Rattle.theory.specs.Reach.{Inside, Leads, Reach, Same, Turned, here, more}
 use Rattle.theory.proofs.Finishing.{late}
 use Rattle.theory.proofs.Gathering.{Part, part_all, part_reverse, part_shut, part_skip, part_start, part_take}
 use Rattle.theory.proofs.Pushing.{adds, fresh_length, pushed, weight_falls, weight_most}
-use Rattle.theory.proofs.Reaching.{in_cases, in_left, in_right, reach_turn}
+use Rattle.theory.proofs.Reaching.{in_cases, in_left, in_right, popped, reach_turn}
 use Rattle.theory.proofs.PostRunning.{Falls, Nodes, fresh_nodes}
 use Rattle.theory.proofs.Machines.{all_keep, comes_to_end}
 use Rattle.theory.proofs.Steps.{Empty, gather_machine, pull_stays}
@@ -109,7 +109,7 @@ module _ (out inn : ℕ → List ℕ) (n : ℕ) (inside : Inside n out) (inside'
   pub grouping_skip : (x : ℕ) (l : List ℕ) (t : ℕ → Type 0) (gs : List (List ℕ)) → Grouping out inn n (x ∷ l) t gs → t x → Grouping out inn n l t gs
   grouping_skip x l t gs h j = record {
     shut = h.shut;
-    left = λ y lt. ⊎_elim (λ a. inl a) (⊎_elim (λ e. inl (subst t (sym e) j)) (λ a. inr a)) (h.left y lt);
+    left = λ y lt. popped t l j (h.left y lt);
     post = h.post.1;
     apart = h.apart.1;
     ahead = λ y a. h.ahead y (inr a);

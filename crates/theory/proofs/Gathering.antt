@@ -2,7 +2,7 @@
 use Rattle.std.proofs.Common.{ℕ, ◌⊎◌, List, [], ◌∷◌, ◌++◌, reverse, sym, refl, subst, inl, inr, ⊎_elim}
 use Rattle.theory.specs.Edges.{In, Distinct}
 use Rattle.theory.specs.Reach.{Leads, Reach, here, more}
-use Rattle.theory.proofs.Reaching.{in_cases, in_left, in_reverse, in_right, reach_eq, reverse_distinct, reverse_in}
+use Rattle.theory.proofs.Reaching.{in_cases, in_left, in_reverse, in_right, popped, reach_eq, reverse_distinct, reverse_in}
 use Rattle.theory.proofs.PostWalking.{Adds, Pushed}
 
 -- t0 was taken before, x is where it began, g is the group so far
@@ -36,8 +36,8 @@ module _ (out : ℕ → List ℕ) (t0 : ℕ → Type 0) (x : ℕ) where
     only = p.only;
     reached = p.reached;
     aimed = λ y i. p.aimed y (inr i);
-    shut = λ u w k e. ⊎_elim (λ a. inl a) (⊎_elim (λ i. inl (subst t (sym i) h)) (λ i. inr i)) (p.shut u w k e);
-    begun = ⊎_elim (λ a. inl a) (⊎_elim (λ i. inl (subst t (sym i) h)) (λ i. inr i)) p.begun;
+    shut = λ u w k e. popped t s h (p.shut u w k e);
+    begun = popped t s h p.begun;
     once = p.once;
   }
 

@@ -5,7 +5,7 @@ use Rattle.theory.specs.PostOrder.{State, Via, fresh, in?, run, step, visit, wei
 use Rattle.theory.specs.Reach.{Inside, more}
 use Rattle.theory.proofs.Machines.{all_keep, comes_to_end}
 use Rattle.theory.proofs.Pushing.{adds, fresh_length, pushed, weight_falls}
-use Rattle.theory.proofs.Reaching.{in_cases, in_cast, in_right}
+use Rattle.theory.proofs.Reaching.{in_cases, in_right, popped}
 use Rattle.theory.proofs.Steps.{Empty, run_machine, step_stays}
 use Rattle.theory.proofs.PostWalking.{Walk, discover, finish, skip, top}
 
@@ -67,7 +67,7 @@ module _ (out : ℕ → List ℕ) (old : ℕ → Type 0) (s0 : List ℕ) where
     found = h.found;
     aimed = λ x j. h.aimed x (inr j);
     kept = h.kept;
-    begun = λ x j. ⊎_elim (λ k. inl k) (⊎_elim (λ e. inl (in_cast d (sym e) i)) (λ k. inr k)) (h.begun x j);
+    begun = λ x j. popped (λ z. In z d) s i (h.begun x j);
   }
 
   pub visit_keeps : (v : ℕ) (s d f : List ℕ) (a : Dec (In v d)) (b : Dec (In v f)) → State-keeps (v ∷ s) d f → State-keeps (visit out v s d f a b).stack (visit out v s d f a b).disc (visit out v s d f a b).fin

@@ -42,6 +42,12 @@ module _ {X : Type 0} where
   pub in_cast : {x y : X} (l : List X) → x ≡ y → In x l → In y l
   in_cast l e h = subst (λ z. In z l) e h
 
+  -- what has D or stands in a list, where its first item has D
+  pub popped : (D : X → Type 0) {v x : X} (s : List X) → D v → D x ⊎ In x (v ∷ s) → D x ⊎ In x s
+  popped D s h (inl k) = inl k
+  popped D s h (inr (inl e)) = inl (subst D (sym e) h)
+  popped D s h (inr (inr i)) = inr i
+
   -- each of l pushed on s, in order
   pub pushed_in : (l s : List X) (x : X) → In x (reverse_aux l s) → In x l ⊎ In x s
   pushed_in [] s x i = inr i

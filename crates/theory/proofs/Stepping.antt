@@ -7,6 +7,7 @@ use Rattle.theory.specs.Rules.{Rule}
 use Rattle.theory.specs.Walk.{Place, mark, found, dropped, Step, after, Walks, start, turn, did, run, order}
 use Rattle.theory.specs.Walk.Step.{ends, finds, drops, finishes}
 use Rattle.theory.specs.Walk.Walks.{begins, goes}
+use Rattle.theory.proofs.Reaching.{popped}
 use Rattle.theory.proofs.Looking.{turn_saw, turn_passed, turn_closed}
 use Rattle.theory.proofs.Walking.{mark_own, mark_cases, sent_at, answered_at}
 
@@ -92,7 +93,7 @@ module _ {E : Type 0} (lst : ℕ → List E) (far : E → ℕ) (r : Rule E) wher
         all = l.all;
         only = l.only;
         saw_done = l.saw_done;
-        due = λ k h. ⊎_elim (λ d. inl d) (λ i. ⊎_elim (λ q. inl (ap s.done q ∙ m)) (λ j. inr j) (subst (In k) e i)) (l.due k h);
+        due = λ k h. popped (λ z. s.done z ≡ true) st m (subst (λ v. (s.done k ≡ true) ⊎ In k v) e (l.due k h));
       })
   step_lists a xs t s (finishes x st e n m q z) l =
       subst (λ v. Lists (after v xs) t) (sym q) (subst (Lists (x ∷ xs)) (sym z) (record {

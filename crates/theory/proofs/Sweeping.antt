@@ -6,7 +6,7 @@ use Rattle.theory.specs.PostOrder.{Post, SweepFinishesInPostOrder, below, fresh,
 use Rattle.theory.specs.Reach.{Inside}
 use Rattle.theory.proofs.Finishing.{post_step}
 use Rattle.theory.proofs.Pushing.{adds, pushed, weight_most}
-use Rattle.theory.proofs.Reaching.{in_cases, in_cast, in_left, in_right}
+use Rattle.theory.proofs.Reaching.{in_cases, in_cast, in_left, in_right, popped}
 use Rattle.theory.proofs.PostRunning.{fresh_nodes, run_ends, run_keeps}
 use Rattle.theory.proofs.PostWalking.{Told, Walk, discover, finish, skip, top}
 use Rattle.theory.proofs.PostEnding.{walk_end, walk_start}
@@ -67,7 +67,7 @@ module _ (out : ℕ → List ℕ) (n : ℕ) (inside : Inside n out) where
     walk = (h.walk.0, skip out nobody (λ x. In x d) v s f h.walk.0 h.walk.1 k);
     post = h.post;
     keep = h.keep;
-    begun = ⊎_elim (λ a. inl a) (⊎_elim (λ e. inl (in_cast d (sym e) j)) (λ a. inr a)) h.begun;
+    begun = popped (λ z. In z d) s j h.begun;
     stacked = λ y a. h.stacked y (inr a);
     nodes = h.nodes;
   }
@@ -78,7 +78,7 @@ module _ (out : ℕ → List ℕ) (n : ℕ) (inside : Inside n out) where
         walk = (q.0, finish out nobody (λ x. In x d) v s f h.walk.0 q.0 w j k q.1);
         post = post_step out nobody (λ x. In x d) (λ x z. z) v s f h.walk.0 q.0 w j k q.1 h.post;
         keep = λ y a. inr (h.keep y a);
-        begun = ⊎_elim (λ a. inl a) (⊎_elim (λ e. inl (in_cast d (sym e) j)) (λ a. inr a)) h.begun;
+        begun = popped (λ z. In z d) s j h.begun;
         stacked = λ y a. h.stacked y (inr a);
         nodes = λ y. ⊎_elim (λ e. subst (λ z. z < n) (sym e) (h.stacked v (inl refl))) (h.nodes y);
       }

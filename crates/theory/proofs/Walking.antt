@@ -9,7 +9,7 @@ use Rattle.theory.specs.Walk.{Place, place, mark, sends, asks, found, dropped, f
 use Rattle.theory.specs.Walk.Step.{ends, finds, drops, finishes}
 use Rattle.theory.specs.Walk.Walks.{begins, goes}
 use Rattle.theory.proofs.Kept.{in_kept, kept_in}
-use Rattle.theory.proofs.Reaching.{in_reverse, reverse_in}
+use Rattle.theory.proofs.Reaching.{in_reverse, popped, reverse_in}
 use Rattle.theory.proofs.Asking.{opens_more, Sent, sent, Answered, answered}
 
 pub mark_own : (d : ℕ → Bool) (x : ℕ) → mark d x x ≡ true
@@ -102,8 +102,7 @@ module _ {E : Type 0} (lst : ℕ → List E) (far : E → ℕ) (r : Rule E) wher
     }
       where
         under : (n : ℕ) → (s.seen n ≡ true) ⊎ In n s.stack → (s.seen n ≡ true) ⊎ In n st
-        under n (inl y) = inl y
-        under n (inr i) = ⊎_elim (λ q. inl (ap s.seen q ∙ h)) (λ j. inr j) (subst (In n) e i)
+        under n y = popped (λ z. s.seen z ≡ true) st h (subst (λ l. (s.seen n ≡ true) ⊎ In n l) e y)
 
     covers_lasts : Lasting (Covers initials)
     covers_lasts = record {
