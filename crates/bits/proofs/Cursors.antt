@@ -1,6 +1,6 @@
 -- What a cursor along the words has still to give: as it begins, as it goes on to the next word, past the last word, and as it
 -- gives the lowest number of a word. Assumes nothing.
-use Rattle.std.proofs.Common.{◌≡◌, ℕ, suc, ◌+◌, ◌-◌, ◌*◌, ◌/◌, ◌%◌, ◌^◌, ◌<◌, ◌≤◌, Bool, true, false, cond, not, ◌&&◌, eqb, ltb, ◌∷◌, length, sym, ap, ◌∙◌, ap₂, inl, inr, arith}
+use Rattle.std.proofs.Common.{◌≡◌, ℕ, suc, ◌+◌, ◌-◌, ◌*◌, ◌/◌, ◌%◌, ◌^◌, ◌<◌, ◌≤◌, Bool, true, false, not, ◌&&◌, eqb, ltb, ◌∷◌, length, sym, ap, ◌∙◌, ap₂, inl, inr, arith}
 use mathlib.Core.Bool.{and-true}
 use lib.Bits.{bit_xor}
 use lib.Count.{count_trailing_zeros}
@@ -15,16 +15,16 @@ Word p row w = (k : ℕ) → k < 64 → bit w k ≡ p (row * 64 + k)
 
 module _ (p : ℕ → Bool) where
   here : (row bits n : ℕ) → n / 64 ≡ row → pending p row bits n ≡ bit bits (n % 64)
-  here row bits n e = ap (λ b. cond b (bit bits (n % 64)) (ltb row (n / 64) && p n)) (eq-eqb (n / 64) row e)
+  here row bits n e = rw (eq-eqb (n / 64) row e)
 
   elsewhere : (row bits n : ℕ) → (n / 64 ≡ row → ⊥) → pending p row bits n ≡ (ltb row (n / 64) && p n)
-  elsewhere row bits n d = ap (λ b. cond b (bit bits (n % 64)) (ltb row (n / 64) && p n)) (ne_eqb (n / 64) row d)
+  elsewhere row bits n d = rw (ne_eqb (n / 64) row d)
 
   later : (row bits n : ℕ) → row < n / 64 → pending p row bits n ≡ p n
-  later row bits n l = elsewhere row bits n (λ e. omega arith) ∙ ap (λ b. b && p n) (lt-ltb row (n / 64) l)
+  later row bits n l = elsewhere row bits n (λ e. omega arith) ∙ rw (lt-ltb row (n / 64) l)
 
   earlier : (row bits n : ℕ) → n / 64 < row → pending p row bits n ≡ false
-  earlier row bits n l = elsewhere row bits n (λ e. omega arith) ∙ ap (λ b. b && p n) (le-ltb row (n / 64) (omega arith))
+  earlier row bits n l = elsewhere row bits n (λ e. omega arith) ∙ rw (le-ltb row (n / 64) (omega arith))
 
   at_word : (row w n : ℕ) → Word p row w → n / 64 ≡ row → pending p row w n ≡ p n
   at_word row w n is e = here row w n e ∙ is (n % 64) (omega arith) ∙ (let at : row * 64 + n % 64 ≡ n = omega arith in ap p at)

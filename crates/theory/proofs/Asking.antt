@@ -1,6 +1,6 @@
 -- What stands on the stack, and what is held, once edges were handed out and the rule was asked about a list of edges. Assumes nothing.
 use Rattle.std.proofs.Common.{◌≡◌, ℕ, ◌+◌, ◌≤◌, Bool, true, false, cond, ◌⊎◌, List, [], ◌∷◌, ◌++◌, length, Some, None, filter, Option, sym, refl, ap, ◌∙◌, subst, inl, inr, ⊎_elim, true≢false, arith, length-append}
-use Rattle.std.proofs.lemmas.Bool.{cond_both, cond-true, or_cases, or_left, or_right, eqb-true, eq-eqb}
+use Rattle.std.proofs.lemmas.Bool.{cond_both, or_cases, or_left, or_right, eqb-true, eq-eqb}
 use Rattle.std.proofs.lemmas.List.Filters.{length-filter_both}
 use Rattle.theory.specs.Edges.{In}
 use Rattle.theory.specs.Rules.{Rule, Waits, is_node, waits_on, stays_at, was_told, hands, held_for, holds, Fair, in_turn}
@@ -60,7 +60,7 @@ module _ {E : Type 0} (d : ℕ → Bool) (held : List E) (e : E) where
   hold_new (Some w) f i = cond_both (d w) held (held ++ e ∷ []) (λ l. In f l → In f held ⊎ (f ≡ e)) (λ _ j. inl j) (λ _ j. ⊎_elim (λ k. inl k) (⊎_elim (λ q. inr q) (λ z. absurd z)) (in_cases f held (e ∷ []) j)) i
 
   hold_own : (o : Option ℕ) (w : ℕ) → o ≡ Some w → d w ≡ false → In e (held_for d held e o)
-  hold_own o w q n = subst (λ v. In e (held_for d held e v)) (sym q) (subst (λ b. In e (cond b held (held ++ e ∷ []))) (sym n) (in_right e held (e ∷ []) (inl refl)))
+  hold_own o w q n = rw (q, n) (in_right e held (e ∷ []) (inl refl))
 
   hold_most : (o : Option ℕ) → length (held_for d held e o) ≤ length held + 1
   hold_most None = omega arith
@@ -125,7 +125,7 @@ module _ {E : Type 0} (far : E → ℕ) (d : ℕ → Bool) where
         i
 
     given_own : (e : E) (st : List ℕ) → Opens r d e → (d (far e) ≡ true) ⊎ In (far e) (given e st)
-    given_own e st o = subst (λ l. (d (far e) ≡ true) ⊎ In (far e) l) (sym (cond-true (hands r d e) (send far d e st) st (opens_hands r d e o))) (send_own e st)
+    given_own e st o = rw (opens_hands r d e o) (send_own e st)
 
     given_most : (e : E) (st : List ℕ) → length (given e st) ≤ length st + 1
     given_most e st = cond_both (hands r d e) (send far d e st) st (λ l. length l ≤ length st + 1) (λ _. send_most e st) (λ _. omega arith)

@@ -1,10 +1,10 @@
 -- Chains of links, and the lists that they stand for: a link that tells the latest item stays right as an item is added,
 -- and a walk along the links gives just the items with the key, the latest first. Assumes nothing.
-use Rattle.std.proofs.Common.{◌≡◌, ℕ, zero, suc, ◌+◌, ◌-◌, ◌<◌, ◌≤◌, false, eqb, leb, [], ◌∷◌, Some, sym, refl, ap, ◌∙◌, subst, inl, inr, add-one, sub-one, arith}
+use Rattle.std.proofs.Common.{◌≡◌, ℕ, zero, suc, ◌+◌, ◌-◌, ◌<◌, ◌≤◌, eqb, leb, [], ◌∷◌, Some, sym, refl, ap, ◌∙◌, subst, inl, inr, add-one, sub-one, arith}
 use native.Mathlib.Bridge.{le_prop}
 use native.Mathlib.Nat.{ℕ_set}
 use std.HLevel.{Π_prop}
-use Rattle.std.proofs.lemmas.Bool.{cond-true, cond-false, eqb-true, ne_eqb, eq-eqb, cases_lt, le-leb}
+use Rattle.std.proofs.lemmas.Bool.{cond-true, eqb-true, ne_eqb, eq-eqb, cases_lt, le-leb}
 use Rattle.theory.specs.Edges.{Edge, In, Once}
 use Rattle.theory.specs.Graphs.{Steps}
 use Rattle.theory.specs.Chains.{newest, keyed, Last, from}
@@ -65,16 +65,14 @@ module _ {X : Type 0} (key : X → ℕ) (at : ℕ → X) where
       elim (cases_lt k h) [
         | inl more ↦ let z : suc k ≡ h = omega arith in ap (λ x. keyed key at x n) z
         | inr less ↦
-            let here : eqb (key (at k)) n ≡ false = ne_eqb (key (at k)) n (none k less (omega arith)) in
-            cond-false (eqb (key (at k)) n) (at k ∷ keyed key at k n) (keyed key at k n) here
-            ∙ keyed_skip k n h less (λ j low high. none j low (omega arith))
+            rw (ne_eqb (key (at k)) n (none k less (omega arith))) (keyed_skip k n h less (λ j low high. none j low (omega arith)))
       ]
 
   -- what is left from a link on is the list that the link stands for
   pub from_last : (count k n h : ℕ) → k ≤ count → Last (λ j. key (at j)) k n h → from key at count h ≡ keyed key at k n
   from_last count k n h b l =
       let within : h ≤ k = l.0 in
-      let start = cond-true (leb h count) (keyed key at h (key (at (h - 1)))) [] (le-leb h count (omega arith)) in
+      let start : from key at count h ≡ keyed key at h (key (at (h - 1))) = rw (le-leb h count (omega arith)) in
       let end = sym (keyed_skip k n h l.0 l.1) in
       start ∙ here h l.2 ∙ end
     where

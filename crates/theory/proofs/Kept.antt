@@ -1,6 +1,6 @@
 -- What a filter keeps of a list of edges, and that edges of different numbers below n are at most n. Assumes nothing.
 use Rattle.std.proofs.Common.{◌≡◌, ℕ, zero, suc, ◌+◌, ◌<◌, ◌≤◌, Bool, true, false, cond, not, eqb, List, [], ◌∷◌, length, filter, sym, refl, ap, ap₂, ◌∙◌, inl, inr, arith}
-use Rattle.std.proofs.lemmas.Bool.{cond_both, cond-true, cond-false, eqb-true, eqb-false, not-true, not-false, ne_eqb, not_from_false}
+use Rattle.std.proofs.lemmas.Bool.{cond_both, eqb-true, eqb-false, not-true, not-false, ne_eqb, not_from_false}
 use Rattle.theory.specs.Edges.{Edge, In, Once}
 
 -- what is kept stood there, and passes
@@ -15,7 +15,7 @@ in_kept {X} p (y ∷ ys) x h =
 -- what stands there and passes is kept
 pub kept_in : {X : Type 0} (p : X → Bool) (xs : List X) (x : X) → In x xs → p x ≡ true → In x (filter p xs)
 kept_in p [] x h t = absurd h
-kept_in p (y ∷ ys) x (inl e) t = rw (cond-true (p y) (y ∷ filter p ys) (filter p ys) (ap p (sym e) ∙ t)) (inl e)
+kept_in p (y ∷ ys) x (inl e) t = rw (ap p (sym e) ∙ t) (inl e)
 kept_in p (y ∷ ys) x (inr i) t =
     cond_both (p y) (y ∷ filter p ys) (filter p ys) (λ zs. In x zs) (λ _. inr (kept_in p ys x i t)) (λ _. kept_in p ys x i t)
 
@@ -37,12 +37,11 @@ kept_same p q (y ∷ ys) h = ap₂ (λ b zs. cond b (y ∷ zs) zs) (h y (inl ref
 
 pub kept_none : {X : Type 0} (p : X → Bool) (xs : List X) → ((x : X) → In x xs → p x ≡ false) → filter p xs ≡ []
 kept_none p [] h = refl
-kept_none p (y ∷ ys) h = cond-false (p y) (y ∷ filter p ys) (filter p ys) (h y (inl refl)) ∙ kept_none p ys (λ x i. h x (inr i))
+kept_none p (y ∷ ys) h = rw (h y (inl refl)) (kept_none p ys (λ x i. h x (inr i)))
 
 pub kept_all : {X : Type 0} (p : X → Bool) (xs : List X) → ((x : X) → In x xs → p x ≡ true) → filter p xs ≡ xs
 kept_all p [] h = refl
-kept_all p (y ∷ ys) h =
-    cond-true (p y) (y ∷ filter p ys) (filter p ys) (h y (inl refl)) ∙ ap (λ zs. y ∷ zs) (kept_all p ys (λ x i. h x (inr i)))
+kept_all p (y ∷ ys) h = rw (h y (inl refl), kept_all p ys (λ x i. h x (inr i)))
 
 abbrev other : {W : Type 0} → ℕ → Edge W → Bool
 other k e = not (eqb e.number k)

@@ -2,7 +2,7 @@
 -- walk has left (weight, share) are such sums. Assumes nothing.
 use Rattle.std.proofs.Common.{◌≡◌, ℕ, zero, suc, ◌+◌, ◌*◌, ◌<◌, ◌≤◌, Bool, true, false, cond, ◌||◌, eqb, ◌⊎◌, List, [], ◌∷◌, length, sym, refl, ap, ◌∙◌, inl, inr, ⊎_elim, arith}
 use mathlib.Core.Bool.{or-false}
-use Rattle.std.proofs.lemmas.Bool.{cases_eq, cases_lt, cond_both, cond-true, cond-false, or_right, eq-eqb, ne_eqb}
+use Rattle.std.proofs.lemmas.Bool.{cases_eq, cases_lt, cond_both, or_right, eq-eqb, ne_eqb}
 use Rattle.theory.specs.Edges.{In}
 use Rattle.theory.specs.PostOrder.{cost, in?, part, share, weight}
 use Rattle.theory.specs.Walk.{mark, edges}
@@ -37,8 +37,8 @@ left_mark f d x (suc n) b h = here (cases_lt x n) (λ less. left_mark f d x n le
     here (inr more) ih =
         let q : n ≡ x = omega arith in
         let a = left_same f (mark d x) d n (λ k l. mark_other d x k (λ e. omega arith)) in
-        let c = cond-true (mark d x n) 0 (f n) (or_right (d n) (eqb n x) (eq-eqb n x q)) in
-        let e = cond-false (d n) 0 (f n) (ap d q ∙ h) in
+        let c : cond (mark d x n) 0 (f n) ≡ 0 = rw (or_right (d n) (eqb n x) (eq-eqb n x q)) in
+        let e : cond (d n) 0 (f n) ≡ f n = rw (ap d q ∙ h) in
         let g = ap f q in
         omega arith
 

@@ -1,7 +1,7 @@
 -- Edges run onward: through the components, through post-order, and through what a filter leaves of the order. Assumes nothing.
 use Rattle.std.proofs.Common.{◌≡◌, ℕ, Bool, true, ◌⊎◌, List, [], ◌∷◌, ◌++◌, reverse, filter, sym, ap, ◌∙◌, subst, inl, inr, ⊎_elim}
 use mathlib.Core.List.{reverse_aux}
-use Rattle.std.proofs.lemmas.Bool.{cond_both, cond-true, and_parts}
+use Rattle.std.proofs.lemmas.Bool.{cond_both, and_parts}
 use Rattle.theory.specs.Components.{Classes, Components, EdgesRunOnward, Onward, components, flat}
 use Rattle.theory.specs.Edges.{Edge, In, within, Distinct}
 use Rattle.theory.specs.Graphs.{Sound, Tied}
@@ -81,7 +81,7 @@ before_turned u w (x ∷ l) s (inr b) = before_turned u w l (x ∷ s) b
 kept_before : (p : ℕ → Bool) (u w : ℕ) (l : List ℕ) → p u ≡ true → p w ≡ true → Before u w l → Before u w (filter p l)
 kept_before p u w [] h k b = absurd b
 kept_before p u w (x ∷ l) h k (inl q) =
-    rw (cond-true (p x) (x ∷ filter p l) (filter p l) (ap p (sym q.0) ∙ h)) (inl (q.0, kept_in p l w q.1 k))
+    rw (ap p (sym q.0) ∙ h) (inl (q.0, kept_in p l w q.1 k))
 kept_before p u w (x ∷ l) h k (inr b) =
     cond_both (p x) (x ∷ filter p l) (filter p l) (λ zs. Before u w zs) (λ _. inr (kept_before p u w l h k b)) (λ _. kept_before p u w l h k b)
 

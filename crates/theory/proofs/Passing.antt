@@ -1,5 +1,5 @@
 -- By the rule that all edges pass the walk is the post-order walk over lists of far ends, turn for turn. Assumes nothing.
-use Rattle.std.proofs.Common.{◌≡◌, ℕ, zero, suc, Bool, false, cond, eqb, List, [], ◌∷◌, ◌++◌, map, sym, refl, ap, ◌∙◌, inl, inr, ⊎_elim, append_assoc}
+use Rattle.std.proofs.Common.{◌≡◌, ℕ, zero, suc, Bool, false, eqb, List, [], ◌∷◌, ◌++◌, map, sym, refl, ap, ◌∙◌, inl, inr, ⊎_elim, append_assoc}
 use Rattle.std.proofs.lemmas.Bool.{false_from_ne_true, or_left}
 use Rattle.theory.specs.Edges.{In}
 use Rattle.theory.specs.Rules.{every}
@@ -22,8 +22,8 @@ alike_mark a l x h n = (
 
 module _ {E : Type 0} (lst : ℕ → List E) (far : E → ℕ) where
   send_unless : (a : ℕ → Bool) (l : List ℕ) (e : E) (st : List ℕ) → Alike a l → (c : Dec (In (far e) l)) → send far a e st ≡ unless c (far e) ++ st
-  send_unless a l e st h (yes i) = ap (λ b. cond b st (far e ∷ st)) ((h (far e)).1 i)
-  send_unless a l e st h (no n) = ap (λ b. cond b st (far e ∷ st)) (out_of a l (far e) h n)
+  send_unless a l e st h (yes i) = rw ((h (far e)).1 i)
+  send_unless a l e st h (no n) = rw (out_of a l (far e) h n)
 
   -- asking about the edges one by one puts what is fresh on top
   asks_fresh : (a : ℕ → Bool) (l : List ℕ) (es : List E) (st : List ℕ) (held : List E) → Alike a l → (asks far every a es st held).stack ≡ fresh l (map far es) ++ st

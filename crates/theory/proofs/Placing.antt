@@ -5,7 +5,7 @@ use Rattle.std.specs.List.{position, position_or_len, range_with_len, slice_get}
 use Rattle.std.proofs.lemmas.List.FromFn.{get_or-map-range_with_len, length-map-range_with_len, map-range_with_len_more}
 use Rattle.std.proofs.lemmas.List.Sums.{fails_before_first, position_or_len_is}
 use Rattle.std.proofs.lemmas.Option.{slice_get_read}
-use Rattle.std.proofs.lemmas.Bool.{cond_above, cond_below, cond-true, cond-false, eqb-false, ne_eqb, eq-eqb, cases_lt, lt-ltb, le-ltb}
+use Rattle.std.proofs.lemmas.Bool.{cond_above, cond_below, eqb-false, ne_eqb, eq-eqb, cases_lt, lt-ltb, le-ltb}
 use Rattle.theory.specs.Pairs.{Pair, listed, place}
 
 -- std's list of a function of the index
@@ -46,10 +46,10 @@ place_is p (x ∷ xs) = here (has p x) (place p xs) (position_or_len (has p) xs)
   where
     here : (b : Bool) (o : Option ℕ) (n l : ℕ) → o ≡ cond (ltb n l) (Some n) None
         → cond b (Some 0) (option_map suc o) ≡ cond (ltb (cond (not b) (1 + n) 0) (suc l)) (Some (cond (not b) (1 + n) 0)) None
-    here true o n l e = cond_below 0 (suc l) (Some 0) None (omega arith)
+    here true o n l e = rw (lt-ltb 0 (suc l) (omega arith))
     here false o n l e = ap (option_map suc) e ∙ elim (cases_lt n l) [
-      | inl less ↦ ap (option_map suc) (cond-true (ltb n l) (Some n) None (lt-ltb n l less)) ∙ ap Some (sym (one-add n)) ∙ cond_below (1 + n) (suc l) (Some (1 + n)) None (omega arith)
-      | inr more ↦ ap (option_map suc) (cond-false (ltb n l) (Some n) None (le-ltb n l more)) ∙ cond_above (1 + n) (suc l) (Some (1 + n)) None None (omega arith) refl
+      | inl less ↦ rw (lt-ltb n l less, lt-ltb (1 + n) (suc l) (omega arith), one-add n)
+      | inr more ↦ rw (le-ltb n l more, le-ltb (1 + n) (suc l) (omega arith))
     ]
 
 module _ (at : ℕ → Pair) (k p : ℕ) where

@@ -1,9 +1,9 @@
 -- What the turns of a walk keep, and that a walk which came to the empty stack has seen the least set. Assumes nothing.
-use Rattle.std.proofs.Common.{◌≡◌, ℕ, Bool, true, false, not, eqb, ◌⊎◌, List, [], ◌∷◌, filter, Option, sym, refl, ap, ◌∙◌, subst, inl, inr, ⊎_elim, true≢false}
+use Rattle.std.proofs.Common.{◌≡◌, ℕ, Bool, true, false, eqb, ◌⊎◌, List, [], ◌∷◌, filter, Option, sym, refl, subst, inl, inr, ⊎_elim, true≢false}
 use mathlib.Core.List.{reverse_aux}
 use Rattle.std.proofs.lemmas.Bool.{or_cases, or_left, or_right, or_parts, eqb-true, eq-eqb}
 use Rattle.theory.specs.Edges.{In}
-use Rattle.theory.specs.Rules.{Rule, Waits, is_node, stays_at, Fair}
+use Rattle.theory.specs.Rules.{Rule, Waits, stays_at, Fair}
 use Rattle.theory.specs.Least.{Opens, Inside, IsLeast}
 use Rattle.theory.specs.Walk.{Place, place, mark, sends, asks, found, dropped, finished, Step, Walks, over, start}
 use Rattle.theory.specs.Walk.Step.{ends, finds, drops, finishes}
@@ -92,7 +92,7 @@ module _ {E : Type 0} (lst : ℕ → List E) (far : E → ℕ) (r : Rule E) wher
         stays : (u : ℕ) (e : E) (w : ℕ) → s.seen u ≡ true → In e (lst u) → Waits r e w → mark s.seen x w ≡ false → In e (filter (stays_at r x) s.held)
         stays u e w h i p m =
             let y = or_parts (s.seen w) (eqb w x) m in
-            kept_in (stays_at r x) s.held e (c.waiting u e w h i p y.0) (ap (λ o. not (is_node x o)) p ∙ ap not y.1)
+            kept_in (stays_at r x) s.held e (c.waiting u e w h i p y.0) (rw (p, y.1))
 
     covers_less : (s : Place E) (x : ℕ) (st : List ℕ) (f : ℕ → Bool) → s.stack ≡ x ∷ st → s.seen x ≡ true → Covers initials s → Covers initials (place st s.seen f s.held)
     covers_less s x st f e h c = record {
