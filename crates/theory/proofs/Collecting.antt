@@ -3,12 +3,12 @@ use Rattle.std.proofs.Common.{◌≡◌, ℕ, ◌+◌, ◌<◌, ◌≤◌, ◌�
 use Rattle.theory.specs.Components.{Classes, Components, Onward, collect, components, flat, gather, group, pull, take}
 use Rattle.theory.specs.Edges.{In, Distinct}
 use Rattle.theory.specs.PostOrder.{Post, below, fresh, fuel, in?, sweep, weight}
-use Rattle.theory.specs.Reach.{Inside, Leads, Reach, Same, Turned, here, more}
+use Rattle.theory.specs.Reach.{Inside, Leads, Reach, Same, Turned, here}
 use Rattle.theory.proofs.Finishing.{late}
 use Rattle.theory.proofs.Gathering.{Part, part_all, part_reverse, part_shut, part_skip, part_start, part_take}
 use Rattle.theory.proofs.Pushing.{adds, fresh_length, pushed, weight_falls, weight_most}
-use Rattle.theory.proofs.Reaching.{in_cases, in_left, in_right, popped, reach_turn}
-use Rattle.theory.proofs.PostRunning.{Falls, Nodes, fresh_nodes}
+use Rattle.theory.proofs.Reaching.{in_cases, in_left, in_right, popped, reach_keeps, reach_turn}
+use Rattle.theory.proofs.PostRunning.{Falls, Nodes, fresh_nodes, one_node}
 use Rattle.theory.proofs.Machines.{all_keep, comes_to_end}
 use Rattle.theory.proofs.Steps.{Empty, gather_machine, pull_stays}
 use Rattle.theory.proofs.Sweeping.{sweep_finishes_in_post_order}
@@ -32,8 +32,7 @@ once_append (x ∷ s) t a b n = (
 )
 
 reach_node : (out : ℕ → List ℕ) (n : ℕ) → Inside n out → (a b : ℕ) → a < n → Reach (Leads out) a b → b < n
-reach_node out n inside a b h here = h
-reach_node out n inside a b h (more {b = c} r e) = inside c b e
+reach_node out n inside a b h r = reach_keeps (λ z. z < n) (λ u w _ e. inside u w e) h r
 
 module _ (out : ℕ → List ℕ) (n : ℕ) (inside : Inside n out) where
   take_falls : (v : ℕ) (s t g : List ℕ) (a : Dec (In v t)) → Nodes n (v ∷ s) → Falls out n inside (v ∷ s) t (take out v s t g a)
@@ -64,7 +63,7 @@ module _ (out : ℕ → List ℕ) (n : ℕ) (inside : Inside n out) where
   gathered k m x t lt c =
       let y = gather out k (x ∷ []) t [] in
       let p = gather_keeps out (Parts t x) (take_part t x) k (x ∷ []) t [] (part_start out (λ z. In z t) x c) in
-      let ends = gather_ends k (x ∷ []) t [] (λ z. ⊎_elim (λ e. subst (λ a. a < n) (sym e) lt) (λ a. absurd a)) (omega (arith, weight_most out n t)) in
+      let ends = gather_ends k (x ∷ []) t [] (one_node lt) (omega (arith, weight_most out n t)) in
       subst (λ s. Parts t x s y.disc y.fin) ends p
 
 -- l is what is left of the nodes in the order of finishing, t is taken
@@ -88,10 +87,6 @@ module _ (out inn : ℕ → List ℕ) (n : ℕ) (inside : Inside n out) (inside'
   flop : {a b : ℕ} → Reach (Leads inn) a b → Reach (Leads out) b a
   flop r = reach_turn (λ a b e. turned.1 b a e) r
 
-  shut_reach : (t : ℕ → Type 0) → ((u w : ℕ) → t u → In w (out u) → t w) → (a b : ℕ) → t a → Reach (Leads out) a b → t b
-  shut_reach t c a b i here = i
-  shut_reach t c a b i (more {b = d} r e) = c d b (shut_reach t c a d i r) e
-
   -- what the first of the list, if not taken, is gathered with, is of its component
   one_class : (x : ℕ) (l : List ℕ) (t : ℕ → Type 0) (gs : List (List ℕ)) → Grouping out inn n (x ∷ l) t gs → (t x → ⊥) → (z : ℕ) → (t z → ⊥) → Reach (Leads out) x z → Same out x z
   one_class x l t gs h m z nz r = at (⊎_elim (λ a. absurd (nz a)) (λ a. a) (h.left z (reach_node out n inside x z (h.ahead x (inl refl)) r)))
@@ -102,7 +97,7 @@ module _ (out inn : ℕ → List ℕ) (n : ℕ) (inside : Inside n out) (inside'
           let y = late inn l h.post.1 x h.apart.0 z i (flip r) in
           let s = y.2 in
           let lt : y.0 < n = reach_node inn n inside' z y.0 (h.ahead z (inr i)) s.0 in
-          let free : t y.0 → ⊥ = λ a. nz (shut_reach t h.shut y.0 z a (flop s.0)) in
+          let free : t y.0 → ⊥ = λ a. nz (reach_keeps t h.shut a (flop s.0)) in
           let is : y.0 ≡ x = ⊎_elim (λ a. absurd (free a)) (⊎_elim (λ e. e) (λ a. absurd (y.1 a))) (h.left y.0 lt) in
           (r, flop (subst (λ a. Reach (Leads inn) a z) is s.1))
 
@@ -142,7 +137,7 @@ module _ (out inn : ℕ → List ℕ) (n : ℕ) (inside : Inside n out) (inside'
             x,
             λ w a. one_class x l t gs h j w (p.new w a).1 (p.reached w a),
             λ w s. ⊎_elim
-                (λ a. absurd (j (shut_reach t h.shut w x a s.1)))
+                (λ a. absurd (j (reach_keeps t h.shut a s.1)))
                 (λ a. a)
                 (p.only w (part_all out t x t' g p w s.0)),
           ),

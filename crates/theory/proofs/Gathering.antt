@@ -1,8 +1,8 @@
 -- The gathering of one component: what holds between its turns, that each turn keeps it, and what it gives at the end. Assumes nothing.
 use Rattle.std.proofs.Common.{ℕ, ◌⊎◌, List, [], ◌∷◌, ◌++◌, reverse, sym, refl, subst, inl, inr, ⊎_elim}
 use Rattle.theory.specs.Edges.{In, Distinct}
-use Rattle.theory.specs.Reach.{Leads, Reach, here, more}
-use Rattle.theory.proofs.Reaching.{in_cases, in_left, in_reverse, in_right, popped, reach_eq, reverse_distinct, reverse_in}
+use Rattle.theory.specs.Reach.{Leads, Reach, more}
+use Rattle.theory.proofs.Reaching.{in_cases, in_left, in_reverse, in_right, popped, reach_eq, reach_keeps, reverse_distinct, reverse_in}
 use Rattle.theory.proofs.PostWalking.{Adds, Pushed}
 
 -- t0 was taken before, x is where it began, g is the group so far
@@ -71,8 +71,7 @@ module _ (out : ℕ → List ℕ) (t0 : ℕ → Type 0) (x : ℕ) where
   part_shut t g p u w h e = ⊎_elim (λ a. a) (λ z. absurd z) (p.shut u w h e)
 
   pub part_all : (t : ℕ → Type 0) (g : List ℕ) → Part out t0 t x [] g → (w : ℕ) → Reach (Leads out) x w → t w
-  part_all t g p w here = ⊎_elim (λ a. a) (λ z. absurd z) p.begun
-  part_all t g p w (more {b = b} r e) = part_shut t g p b w (part_all t g p b r) e
+  part_all t g p w r = reach_keeps t (part_shut t g p) (⊎_elim (λ a. a) (λ z. absurd z) p.begun) r
 
   -- the order in the group is no matter
   pub part_reverse : (t : ℕ → Type 0) (g : List ℕ) → Part out t0 t x [] g → Part out t0 t x [] (reverse g)

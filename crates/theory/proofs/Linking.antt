@@ -4,13 +4,13 @@ use mathlib.Core.List.{reverse_aux}
 use Rattle.std.proofs.Math.ListN.{length-reverse_aux}
 use Rattle.theory.specs.Edges.{Edge, In, Once, within, Distinct}
 use Rattle.theory.specs.Graphs.{Sound, Tied}
-use Rattle.theory.specs.Listings.{Behind, Direction, Link, LinksShowWhatRootsReach, Linking, Shows, begin, far, followed, inside, linking, links, meet, near, roots, show, shows}
+use Rattle.theory.specs.Listings.{Behind, Direction, LinksShowWhatRootsReach, Linking, Shows, begin, far, followed, inside, linking, links, meet, near, roots, show, shows}
 use Rattle.theory.specs.PostOrder.{in?, weight}
-use Rattle.theory.specs.Reach.{Reach, here, more}
+use Rattle.theory.specs.Reach.{here, more}
 use Rattle.theory.proofs.Following.{far_below, listed_once, near_at, one_number}
 use Rattle.theory.proofs.Kept.{in_kept, once_kept}
 use Rattle.theory.proofs.Pushing.{adds, weight_falls}
-use Rattle.theory.proofs.Reaching.{in_cast, in_reverse, pushed_distinct, pushed_in, pushed_left, pushed_right, reverse_distinct, reverse_in}
+use Rattle.theory.proofs.Reaching.{in_cast, in_reverse, pushed_distinct, pushed_in, pushed_left, pushed_right, reach_keeps, reverse_distinct, reverse_in}
 use Rattle.theory.proofs.Rooting.{roots_are_entries}
 use Rattle.theory.proofs.PostWalking.{Adds}
 use Rattle.theory.proofs.Machines.{comes_to_end}
@@ -113,13 +113,11 @@ module _ {X : Type 0} (lst : ℕ → List X) (at to : X → ℕ) (n : ℕ) (ls :
     once = g.once;
     inside = λ e i. (g.told e i).0;
     behind = λ e i. g.sound (at e) (g.told e i).1;
-    all = λ u e i b. ⊎_elim (λ z. absurd z) (λ c. c) (g.all u e (arrive b.0 (r b.0 b.1) u b.2) i);
+    all = λ u e i b. seen u e (reach_keeps d (λ v w j l. subst d l.2 (a l.0 (seen v l.0 j l.1))) (r b.0 b.1) b.2) i;
   }
     where
-      arrive : (x : ℕ) → d x → (u : ℕ) → Reach (Link lst to) x u → d u
-      arrive x i u here = i
-      arrive x i u (more {b = v} q l) =
-          subst d l.2 (a l.0 (⊎_elim (λ z. absurd z) (λ c. c) (g.all v l.0 (arrive x i v q) l.1)))
+      seen : (u : ℕ) (e : X) → d u → In e (lst u) → In e h
+      seen u e i j = ⊎_elim (λ z. absurd z) (λ c. c) (g.all u e i j)
 
   -- between two turns, with every root met
   abbrev Shown : Linking X → Type 0

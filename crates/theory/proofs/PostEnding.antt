@@ -3,7 +3,8 @@ use Rattle.std.proofs.Common.{◌≡◌, ℕ, ◌⊎◌, List, [], ◌∷◌, su
 use Rattle.theory.specs.Edges.{In, Distinct}
 use Rattle.theory.specs.Listings.{inside}
 use Rattle.theory.specs.PostOrder.{Via, WalkFinishesWhatItReaches, in?, run}
-use Rattle.theory.specs.Reach.{Leads, Reach, here, more}
+use Rattle.theory.specs.Reach.{here}
+use Rattle.theory.proofs.Reaching.{reach_keeps}
 use Rattle.theory.proofs.PostRunning.{State-keeps, run_ends, run_keeps, visit_keeps}
 use Rattle.theory.proofs.PostWalking.{Cov, Told, Walk}
 
@@ -51,7 +52,7 @@ walk_finishes_what_it_reaches out n inside s d f nodes a b o k m =
       back = w.done;
       only = λ v i. kept.1.found v (w.done v i);
       keeps = λ v i. same v (kept.1.kept v i);
-      all = λ v h. same v (arrives x.disc (λ u j. w.told u (same u j)) h.0 (start_in h.0 (kept.1.begun h.0 h.1) ends) h.2 v h.3).0;
+      all = λ v h. same v (reach_keeps Arrives (λ u v g e. (⊎_elim (λ z. absurd (g.1 z)) (λ t. t v e.0) (w.told u (same u g.0)), e.1)) (start_in h.0 (kept.1.begun h.0 h.1) ends, h.2) h.3).0;
       once = w.once;
     }
   where
@@ -63,8 +64,5 @@ walk_finishes_what_it_reaches out n inside s d f nodes a b o k m =
     start_in r (inl i) e = i
     start_in r (inr i) e = absurd (subst (In r) e i)
 
-    arrives : (d' : List ℕ) → ((u : ℕ) → In u d' → Told out (λ u. In u f) (λ u. In u d') u) → (r : ℕ) → In r d' → (In r f → ⊥) → (v : ℕ) → Reach (λ u w. Leads out u w × (In w f → ⊥)) r v → In v d' × (In v f → ⊥)
-    arrives d' t r i j v here = (i, j)
-    arrives d' t r i j v (more {b = u} q e) =
-        let h = arrives d' t r i j u q in
-        (⊎_elim (λ z. absurd (h.1 z)) (λ g. g v e.0) (t u h.0), e.1)
+    Arrives : ℕ → Type 0
+    Arrives v = In v (run out k s d f).disc × (In v f → ⊥)

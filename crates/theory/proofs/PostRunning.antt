@@ -24,6 +24,10 @@ run_keeps out P keep k s d f h =
 abbrev pub Nodes : ℕ → List ℕ → Type 0
 Nodes n s = (y : ℕ) → In y s → y < n
 
+pub one_node : {n i : ℕ} → i < n → Nodes n (i ∷ [])
+one_node lt y (inl e) = omega arith
+one_node lt y (inr z) = absurd z
+
 module _ (out : ℕ → List ℕ) (n : ℕ) (inside : Inside n out) where
   pub fresh_nodes : (d : List ℕ) (v : ℕ) (s : List ℕ) → Nodes n s → Nodes n (fresh (v ∷ d) (out v) ++ s)
   fresh_nodes d v s h y i = ⊎_elim (λ j. inside v y ((pushed out d v).target y j)) (h y) (in_cases y (fresh (v ∷ d) (out v)) s i)

@@ -14,6 +14,11 @@ reach_eq {E} {a} e = subst (λ x. Reach E a x) e here
 pub reach_one : {E : ℕ → ℕ → Type 0} {a b : ℕ} → E a b → Reach E a b
 reach_one e = more here e
 
+-- what the ways' steps keep, their ends have
+pub reach_keeps : {E : ℕ → ℕ → Type 0} (P : ℕ → Type 0) → ((u w : ℕ) → P u → E u w → P w) → {a b : ℕ} → P a → Reach E a b → P b
+reach_keeps P keep h here = h
+reach_keeps P keep h (more r e) = keep _ _ (reach_keeps P keep h r) e
+
 pub reach_turn : {E G : ℕ → ℕ → Type 0} (t : (a b : ℕ) → E a b → G b a) {a b : ℕ} → Reach E a b → Reach G b a
 reach_turn t here = here
 reach_turn t (more q e) = reach_trans (reach_one (t _ _ e)) (reach_turn t q)

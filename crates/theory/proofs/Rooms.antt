@@ -1,5 +1,5 @@
 -- How much room the stacks of the walks want: at most a place for each edge besides what they began with. Assumes nothing.
-use Rattle.std.proofs.Common.{◌≡◌, ℕ, zero, suc, ◌+◌, ◌<◌, ◌≤◌, Bool, List, [], ◌∷◌, ◌++◌, length, sym, refl, ap, subst, inl, inr, ⊎_elim, arith, length-append}
+use Rattle.std.proofs.Common.{◌≡◌, ℕ, zero, suc, ◌+◌, ◌<◌, ◌≤◌, Bool, List, [], ◌∷◌, ◌++◌, length, refl, ap, subst, inl, inr, ⊎_elim, arith, length-append}
 use Rattle.std.proofs.lemmas.List.{length-map}
 use Rattle.std.proofs.lemmas.List.Sums.{count_by-le-length, length-filter}
 use Rattle.std.proofs.Math.ListN.{length-reverse_aux}
@@ -19,7 +19,7 @@ use Rattle.theory.proofs.Linking.{Lists, inside_lists, meet_shown}
 use Rattle.theory.proofs.Pushing.{fresh_length}
 use Rattle.theory.proofs.Reaching.{in_cases, pushed_in}
 use Rattle.theory.proofs.Rooting.{roots_are_entries}
-use Rattle.theory.proofs.PostRunning.{Nodes, fresh_nodes, run_keeps}
+use Rattle.theory.proofs.PostRunning.{Nodes, fresh_nodes, one_node, run_keeps}
 
 module _ {X : Type 0} (out : ℕ → List X) where
   pub share_falls : (n : ℕ) (d : List ℕ) (v : ℕ) → v < n → (In v d → ⊥) → share out n (v ∷ d) + length (out v) ≡ share out n d
@@ -100,16 +100,12 @@ module _ {W : Type 0} {node : ℕ → Bool} {bound edges : ℕ} {outs ins : ℕ 
       let lst = followed d outs ins in
       omega (arith, joined_length lst bound, left_edges lst bound, left_unlisted (λ u. length (lst u)) bound, share_is lst bound [])
 
-one_below : (n i : ℕ) → i < n → (v : ℕ) → In v (i ∷ []) → v < n
-one_below n i lt v (inl e) = subst (λ z. z < n) (sym e) lt
-one_below n i lt v (inr z) = absurd z
-
 pub stacks_fit : (W : Type 0) → StacksFit W
 stacks_fit W node bound edges outs ins s t i lt k d f = (
-  let a = stack_fits (sources ins) bound (sources_inside s t) k (i ∷ []) d f (one_below bound i lt) in
+  let a = stack_fits (sources ins) bound (sources_inside s t) k (i ∷ []) d f (one_node lt) in
       let b = share_less (sources ins) ins bound d (λ u. omega (arith, length-map (ins u) (λ e. e.source))) in
       let e = edges_counted s t Reverse in omega arith,
-  let a = gather_fits (targets outs) bound (targets_inside s) k (i ∷ []) d f (one_below bound i lt) in
+  let a = gather_fits (targets outs) bound (targets_inside s) k (i ∷ []) d f (one_node lt) in
       let b = share_less (targets outs) outs bound d (λ u. omega (arith, length-map (outs u) (λ e. e.target))) in
       let e = edges_counted s t Forward in omega arith,
 )

@@ -7,7 +7,7 @@ use Rattle.theory.specs.Reach.{Inside}
 use Rattle.theory.proofs.Finishing.{post_step}
 use Rattle.theory.proofs.Pushing.{adds, pushed, weight_most}
 use Rattle.theory.proofs.Reaching.{in_cases, in_cast, in_left, in_right, popped}
-use Rattle.theory.proofs.PostRunning.{fresh_nodes, run_ends, run_keeps}
+use Rattle.theory.proofs.PostRunning.{fresh_nodes, one_node, run_ends, run_keeps}
 use Rattle.theory.proofs.PostWalking.{Told, Walk, discover, finish, skip, top}
 use Rattle.theory.proofs.PostEnding.{walk_end, walk_start}
 
@@ -93,7 +93,7 @@ module _ (out : ℕ → List ℕ) (n : ℕ) (inside : Inside n out) where
         post = h.post;
         keep = λ y a. a;
         begun = inr (inl refl);
-        stacked = λ y. ⊎_elim (λ e. subst (λ z. z < n) (sym e) lt) (λ z. absurd z);
+        stacked = one_node lt;
         nodes = h.nodes;
       } in
       let t = run_keeps out (Trip out n f i) (visit_trip f i) k (i ∷ []) d f start in
