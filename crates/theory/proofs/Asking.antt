@@ -1,5 +1,6 @@
 -- What stands on the stack, and what is held, once edges were handed out and the rule was asked about a list of edges. Assumes nothing.
 use Rattle.std.proofs.Common.{◌≡◌, ℕ, ◌+◌, ◌≤◌, Bool, true, false, cond, ◌⊎◌, List, [], ◌∷◌, ◌++◌, length, Some, None, filter, Option, sym, refl, ap, ◌∙◌, subst, inl, inr, ⊎_elim, true≢false, arith, length-append}
+use Rattle.std.proofs.Math.Logic.{⊎_map}
 use Rattle.std.proofs.lemmas.Bool.{cond_both, or_cases, or_left, or_right, eqb-true, eq-eqb}
 use Rattle.std.proofs.lemmas.List.Filters.{length-filter_both}
 use Rattle.theory.specs.Edges.{In}
@@ -26,7 +27,7 @@ module _ {E : Type 0} (r : Rule E) where
   opens_hands d e (inr (w, q, t)) = or_right (r.passes e) (was_told d (r.waits e)) (ap (was_told d) q ∙ t)
 
   hands_opens : (d : ℕ → Bool) (e : E) → hands r d e ≡ true → Opens r d e
-  hands_opens d e h = ⊎_elim (λ p. inl p) (λ t. inr (told_some d (r.waits e) t)) (or_cases (r.passes e) (was_told d (r.waits e)) h)
+  hands_opens d e h = ⊎_map (λ p. p) (λ t. told_some d (r.waits e) t) (or_cases (r.passes e) (was_told d (r.waits e)) h)
 
   -- what opens for a set opens for all that has its nodes
   pub opens_more : (d : ℕ → Bool) (T : ℕ → Type 0) (e : E) → ((n : ℕ) → d n ≡ true → T n) → Opens r d e → (r.passes e ≡ true) ⊎ ((w : ℕ) × Waits r e w × T w)
@@ -98,7 +99,7 @@ module _ {E : Type 0} (far : E → ℕ) (d : ℕ → Bool) where
         keeps = λ n i. q.keeps n (u.keeps n i);
         new = λ n i. ⊎_elim (λ j. ⊎_elim (λ k. inl k) (λ (_, z). inr (e, inl refl, z)) (u.new n j)) (λ (f, k, z). inr (f, inr k, z)) (q.new n i);
         all = λ f. ⊎_elim
-            (λ z. subst (λ v. (d (far v) ≡ true) ⊎ In (far v) (sends far d es (send far d e st))) (sym z) (⊎_elim (λ t. inl t) (λ j. inr (q.keeps (far e) j)) (send_own e st)))
+            (λ z. subst (λ v. (d (far v) ≡ true) ⊎ In (far v) (sends far d es (send far d e st))) (sym z) (⊎_map (λ t. t) (λ j. q.keeps (far e) j) (send_own e st)))
             (q.all f);
         most = omega (arith, q.most, u.most);
       }
@@ -144,7 +145,7 @@ module _ {E : Type 0} (far : E → ℕ) (d : ℕ → Bool) where
           keeps = λ n i. q.keeps n (u.keeps n i);
           new = λ n i. ⊎_elim (λ j. ⊎_elim (λ k. inl k) (λ (o, z). inr (e, inl refl, o, z)) (u.new n j)) (λ (f, k, o, z). inr (f, inr k, o, z)) (q.new n i);
           all = λ f. ⊎_elim
-              (λ z. subst (λ v. Opens r d v → (d (far v) ≡ true) ⊎ In (far v) a.stack) (sym z) (λ o. ⊎_elim (λ t. inl t) (λ j. inr (q.keeps (far e) j)) (given_own e st o)))
+              (λ z. subst (λ v. Opens r d v → (d (far v) ≡ true) ⊎ In (far v) a.stack) (sym z) (λ o. ⊎_map (λ t. t) (λ j. q.keeps (far e) j) (given_own e st o)))
               (q.all f);
           most = omega (arith, q.most, u.most);
           held_keeps = λ f i. q.held_keeps f (v.keeps f i);

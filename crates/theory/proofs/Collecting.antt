@@ -1,5 +1,6 @@
 -- Kosaraju's groups are the components: what is kept from group to group, and where it ends. Assumes nothing.
 use Rattle.std.proofs.Common.{◌≡◌, ℕ, ◌+◌, ◌<◌, ◌≤◌, ◌⊎◌, List, [], ◌∷◌, ◌++◌, reverse, length, sym, refl, subst, inl, inr, ⊎_elim, arith}
+use Rattle.std.proofs.Math.Logic.{⊎_map}
 use Rattle.theory.specs.Components.{Classes, Components, Onward, collect, components, flat, gather, group, pull, take}
 use Rattle.theory.specs.Edges.{In, Distinct}
 use Rattle.theory.specs.PostOrder.{Post, below, fresh, fuel, in?, sweep, weight}
@@ -124,7 +125,7 @@ module _ (out inn : ℕ → List ℕ) (n : ℕ) (inside : Inside n out) (inside'
       let into : (z : ℕ) → t' z → In z (g ++ flat gs) = λ z i. ⊎_elim (λ a. in_right z g (flat gs) (h.to z a)) (λ a. in_left z g (flat gs) a) (p.only z i) in
       record {
         shut = shut;
-        left = λ z b. ⊎_elim (λ a. inl (p.old z a)) (⊎_elim (λ e. inl (subst t' (sym e) mine)) (λ a. inr a)) (h.left z b);
+        left = λ z b. ⊎_elim (λ a. inl (p.old z a)) (⊎_map (λ e. subst t' (sym e) mine) (λ a. a)) (h.left z b);
         post = h.post.1;
         apart = h.apart.1;
         ahead = λ z a. h.ahead z (inr a);

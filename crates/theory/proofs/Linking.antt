@@ -1,5 +1,6 @@
 -- The walk that shows edges: what each of its steps keeps, and that it shows just the inside edges behind a root, each once. Assumes nothing.
 use Rattle.std.proofs.Common.{◌≡◌, ℕ, ◌+◌, ◌<◌, ◌≤◌, Bool, ◌⊎◌, List, [], ◌∷◌, reverse, length, sym, refl, subst, inl, inr, ⊎_elim, arith}
+use Rattle.std.proofs.Math.Logic.{⊎_map}
 use mathlib.Core.List.{reverse_aux}
 use Rattle.std.proofs.Math.ListN.{length-reverse_aux}
 use Rattle.theory.specs.Edges.{Edge, In, Once, within, Distinct}
@@ -71,7 +72,7 @@ module _ {X : Type 0} (lst : ℕ → List X) (at to : X → ℕ) (n : ℕ) (ls :
             (pushed_in (lst u) s x i);
         told = λ x i. ((g.told x i).0, a.keep (at x) (g.told x i).1);
         all = λ v x i j. ⊎_elim
-            (λ k. ⊎_elim (λ c. inl (pushed_right (lst u) s x c)) (λ c. inr c) (g.all v x k j))
+            (λ k. ⊎_map (λ c. pushed_right (lst u) s x c) (λ c. c) (g.all v x k j))
             (λ q. inl (pushed_left (lst u) s x (subst (λ z. In x (lst z)) q j)))
             (a.only v i);
         single = pushed_distinct (lst u) s (ls.once u) g.single (λ x k c. off x k (g.stacked x c).1);

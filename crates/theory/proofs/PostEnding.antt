@@ -1,5 +1,6 @@
 -- A walk that ends has finished what it reaches. Assumes nothing.
 use Rattle.std.proofs.Common.{◌≡◌, ℕ, ◌⊎◌, List, [], ◌∷◌, subst, inl, inr, ⊎_elim}
+use Rattle.std.proofs.Math.Logic.{⊎_map}
 use Rattle.theory.specs.Edges.{In, Distinct}
 use Rattle.theory.specs.Listings.{inside}
 use Rattle.theory.specs.PostOrder.{Via, WalkFinishesWhatItReaches, in?, run}
@@ -13,7 +14,7 @@ module _ (out : ℕ → List ℕ) (old : ℕ → Type 0) where
   cov_all d k [] t = tt
   cov_all d k (g ∷ s) t = (
     t g,
-    cov_all d (λ x. k x ⊎ (x ≡ g)) s (λ x h. ⊎_elim (λ o. inl o) (λ m. inr (λ w i. inl (m w i))) (t x h)),
+    cov_all d (λ x. k x ⊎ (x ≡ g)) s (λ x h. ⊎_map (λ o. o) (λ m w i. inl (m w i)) (t x h)),
   )
 
   -- a walk with no path, from any stack

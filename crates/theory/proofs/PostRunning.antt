@@ -1,5 +1,6 @@
 -- Runs of the post-order walk: with turns enough they end, and they discover nothing but what is reached. Assumes nothing.
 use Rattle.std.proofs.Common.{◌≡◌, ℕ, ◌+◌, ◌<◌, ◌≤◌, ◌⊎◌, List, [], ◌∷◌, ◌++◌, length, sym, refl, subst, inl, inr, ⊎_elim, arith}
+use Rattle.std.proofs.Math.Logic.{⊎_map}
 use Rattle.theory.specs.Edges.{In}
 use Rattle.theory.specs.PostOrder.{State, Via, fresh, in?, run, step, visit, weight}
 use Rattle.theory.specs.Reach.{Inside, more}
@@ -86,7 +87,7 @@ module _ (out : ℕ → List ℕ) (old : ℕ → Type 0) (s0 : List ℕ) where
               (h.aimed x)
               (in_cases x l (v ∷ s) i);
           kept = λ x o. inr (h.kept x o);
-          begun = λ x i. ⊎_elim (λ j. inl (inr j)) (λ j. inr (in_right x l (v ∷ s) j)) (h.begun x i);
+          begun = λ x i. ⊎_map (λ j. inr j) (λ j. in_right x l (v ∷ s) j) (h.begun x i);
         },
       )
   visit_keeps v s d f (yes i) (yes j) (w, h) = ((w.0, skip out old (λ x. In x d) v s f w.0 w.1 j), reached_pop v s d h i)

@@ -1,5 +1,6 @@
 -- What is pushed for a node, and how the count of turns that are left falls with each node discovered. Assumes nothing.
 use Rattle.std.proofs.Common.{◌≡◌, ℕ, suc, ◌+◌, ◌<◌, ◌≤◌, ◌⊎◌, List, [], ◌∷◌, ◌++◌, length, sym, refl, inl, inr, ⊎_elim, arith, length-append}
+use Rattle.std.proofs.Math.Logic.{⊎_map, ⊎_swap}
 use Rattle.theory.specs.Edges.{In}
 use Rattle.theory.specs.PostOrder.{fresh, in?, unless, weight}
 use Rattle.theory.proofs.Reaching.{in_cases, in_cast, in_left, in_right}
@@ -10,7 +11,7 @@ pub adds : (d : List ℕ) (v : ℕ) → Adds (λ x. In x d) (λ x. In x (v ∷ d
 adds d v = record {
   keep = λ x h. inr h;
   new = inl refl;
-  only = λ x. ⊎_elim (λ e. inr e) (λ h. inl h);
+  only = λ x. ⊎_swap;
 }
 
 kept : (x w : ℕ) (d : List ℕ) (c : Dec (In w d)) → In x (unless c w) → (x ≡ w) × (In x d → ⊥)
@@ -32,8 +33,8 @@ found x w d (no n) e = inr (inl e)
 
 fresh_all : (d ws : List ℕ) (x : ℕ) → In x ws → In x d ⊎ In x (fresh d ws)
 fresh_all d [] x h = absurd h
-fresh_all d (w ∷ ws) x (inl e) = ⊎_elim (λ i. inl i) (λ i. inr (in_right x (fresh d ws) (unless (in? w d) w) i)) (found x w d (in? w d) e)
-fresh_all d (w ∷ ws) x (inr h) = ⊎_elim (λ i. inl i) (λ i. inr (in_left x (fresh d ws) (unless (in? w d) w) i)) (fresh_all d ws x h)
+fresh_all d (w ∷ ws) x (inl e) = ⊎_map (λ i. i) (λ i. in_right x (fresh d ws) (unless (in? w d) w) i) (found x w d (in? w d) e)
+fresh_all d (w ∷ ws) x (inr h) = ⊎_map (λ i. i) (λ i. in_left x (fresh d ws) (unless (in? w d) w) i) (fresh_all d ws x h)
 
 pub pushed : (out : ℕ → List ℕ) (d : List ℕ) (v : ℕ) → Pushed out (λ x. In x (v ∷ d)) v (fresh (v ∷ d) (out v))
 pushed out d v = record {

@@ -1,5 +1,6 @@
 -- Ways along a relation, and what stands in lists that are joined, turned round or mapped. Assumes nothing.
 use Rattle.std.proofs.Common.{◌≡◌, ℕ, ◌⊎◌, List, [], ◌∷◌, ◌++◌, map, reverse, sym, refl, ap, subst, inl, inr, ⊎_elim}
+use Rattle.std.proofs.Math.Logic.{⊎_map}
 use mathlib.Core.List.{reverse_aux}
 use Rattle.theory.specs.Edges.{In, Distinct}
 use Rattle.theory.specs.Reach.{Reach, Same, here, more}
@@ -42,7 +43,7 @@ module _ {X : Type 0} where
   pub in_cases : (x : X) (s t : List X) → In x (s ++ t) → In x s ⊎ In x t
   in_cases x [] t h = inr h
   in_cases x (y ∷ s) t (inl e) = inl (inl e)
-  in_cases x (y ∷ s) t (inr h) = ⊎_elim (λ a. inl (inr a)) (λ b. inr b) (in_cases x s t h)
+  in_cases x (y ∷ s) t (inr h) = ⊎_map (λ a. inr a) (λ b. b) (in_cases x s t h)
 
   pub in_cast : {x y : X} (l : List X) → x ≡ y → In x l → In y l
   in_cast l e h = subst (λ z. In z l) e h
@@ -56,7 +57,7 @@ module _ {X : Type 0} where
   -- each of l pushed on s, in order
   pub pushed_in : (l s : List X) (x : X) → In x (reverse_aux l s) → In x l ⊎ In x s
   pushed_in [] s x i = inr i
-  pushed_in (e ∷ l) s x i = ⊎_elim (λ a. inl (inr a)) (⊎_elim (λ a. inl (inl a)) (λ a. inr a)) (pushed_in l (e ∷ s) x i)
+  pushed_in (e ∷ l) s x i = ⊎_elim (λ a. inl (inr a)) (⊎_map (λ a. inl a) (λ a. a)) (pushed_in l (e ∷ s) x i)
 
   pub pushed_right : (l s : List X) (x : X) → In x s → In x (reverse_aux l s)
   pushed_right [] s x i = i

@@ -1,6 +1,7 @@
 -- A step has one answer and leads to one place; a walk is a number of turns; and one that came to the empty stack
 -- has done each node that it saw, once. Assumes nothing.
 use Rattle.std.proofs.Common.{◌≡◌, ℕ, zero, suc, ◌+◌, true, eqb, ◌⊎◌, List, [], ◌∷◌, Option, sym, ap, ◌∙◌, subst, inl, inr, ⊎_elim, true≢false, arith}
+use Rattle.std.proofs.Math.Logic.{⊎_map}
 use Rattle.std.proofs.lemmas.Bool.{or_left, both_ways}
 use Rattle.theory.specs.Edges.{In, Distinct}
 use Rattle.theory.specs.Rules.{Rule}
@@ -85,7 +86,7 @@ module _ {E : Type 0} (lst : ℕ → List E) (far : E → ℕ) (r : Rule E) wher
         saw_done = λ m h. or_left (s.seen m) (eqb m x) (l.saw_done m h);
         due = λ m h.
             let up : In m s.stack → In m (found lst far r x s).stack = λ i. (answered_at lst far r s x).keeps m ((sent_at lst far r s x).keeps m i) in
-            ⊎_elim (λ y. ⊎_elim (λ d. inl d) (λ i. inr (up i)) (l.due m y)) (λ q. inr (up (subst (In m) (sym e) (inl q)))) (mark_cases s.seen x m h);
+            ⊎_elim (λ y. ⊎_map (λ d. d) (λ i. up i) (l.due m y)) (λ q. inr (up (subst (In m) (sym e) (inl q)))) (mark_cases s.seen x m h);
       })
   step_lists a xs t s (drops x st e n m w) l =
       step_lists a xs t (dropped st s) w (record {
@@ -103,7 +104,7 @@ module _ {E : Type 0} (lst : ℕ → List E) (far : E → ℕ) (r : Rule E) wher
         saw_done = λ k h. ⊎_elim (l.saw_done k) (λ p. ap s.seen p ∙ n) (mark_cases s.done x k h);
         due = λ k h. ⊎_elim
             (λ d. inl (or_left (s.done k) (eqb k x) d))
-            (λ i. ⊎_elim (λ p. inl (ap (mark s.done x) p ∙ mark_own s.done x)) (λ j. inr j) (subst (In k) e i))
+            (λ i. ⊎_map (λ p. ap (mark s.done x) p ∙ mark_own s.done x) (λ j. j) (subst (In k) e i))
             (l.due k h);
       }))
 

@@ -1,5 +1,6 @@
 -- The sweep from each node below the count finishes each once, in post-order. Assumes nothing.
 use Rattle.std.proofs.Common.{◌≡◌, ℕ, zero, suc, ◌<◌, ◌≤◌, ◌⊎◌, List, [], ◌∷◌, ◌++◌, sym, refl, subst, inl, inr, ⊎_elim, arith}
+use Rattle.std.proofs.Math.Logic.{⊎_map}
 use native.Mathlib.Decide.{ℕ_discrete}
 use Rattle.theory.specs.Edges.{In, Distinct}
 use Rattle.theory.specs.PostOrder.{Post, SweepFinishesInPostOrder, below, fresh, fuel, in?, run, sweep, visit, walk_from}
@@ -59,7 +60,7 @@ module _ (out : ℕ → List ℕ) (n : ℕ) (inside : Inside n out) where
         walk = (v ∷ h.walk.0, discover out nobody (λ x. In x d) (λ x. In x (v ∷ d)) v s f h.walk.0 l h.walk.1 m (adds d v) (pushed out d v));
         post = h.post;
         keep = h.keep;
-        begun = ⊎_elim (λ j. inl (inr j)) (λ j. inr (in_right i l (v ∷ s) j)) h.begun;
+        begun = ⊎_map (λ j. inr j) (λ j. in_right i l (v ∷ s) j) h.begun;
         stacked = fresh_nodes out n inside d v (v ∷ s) h.stacked;
         nodes = h.nodes;
       }

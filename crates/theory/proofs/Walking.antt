@@ -1,5 +1,6 @@
 -- What the turns of a walk keep, and that a walk which came to the empty stack has seen the least set. Assumes nothing.
 use Rattle.std.proofs.Common.{◌≡◌, ℕ, Bool, true, false, eqb, ◌⊎◌, List, [], ◌∷◌, filter, Option, sym, refl, subst, inl, inr, ⊎_elim, true≢false}
+use Rattle.std.proofs.Math.Logic.{⊎_map}
 use mathlib.Core.List.{reverse_aux}
 use Rattle.std.proofs.lemmas.Bool.{or_cases, or_left, or_right, or_parts, eqb-true, eq-eqb}
 use Rattle.theory.specs.Edges.{In}
@@ -16,7 +17,7 @@ pub mark_own : (d : ℕ → Bool) (x : ℕ) → mark d x x ≡ true
 mark_own d x = or_right (d x) (eqb x x) (eq-eqb x x refl)
 
 pub mark_cases : (d : ℕ → Bool) (x n : ℕ) → mark d x n ≡ true → (d n ≡ true) ⊎ (n ≡ x)
-mark_cases d x n h = ⊎_elim (λ t. inl t) (λ t. inr (eqb-true n x t)) (or_cases (d n) (eqb n x) h)
+mark_cases d x n h = ⊎_map (λ t. t) (λ t. eqb-true n x t) (or_cases (d n) (eqb n x) h)
 
 -- a stack over which initials were put
 pub over_is : (xs st : List ℕ) → over xs st ≡ reverse_aux xs st
@@ -78,11 +79,11 @@ module _ {E : Type 0} (lst : ℕ → List E) (far : E → ℕ) (r : Rule E) wher
     }
       where
         lift : (n : ℕ) → (s.seen n ≡ true) ⊎ In n s.stack → (mark s.seen x n ≡ true) ⊎ In n (found lst far r x s).stack
-        lift n = ⊎_elim (λ h. inl (or_left (s.seen n) (eqb n x) h)) (λ i. inr ((answered_at s x).keeps n ((sent_at s x).keeps n i)))
+        lift n = ⊎_map (λ h. or_left (s.seen n) (eqb n x) h) (λ i. (answered_at s x).keeps n ((sent_at s x).keeps n i))
 
         freed : (u : ℕ) (e : E) → s.seen u ≡ true → In e (lst u) → Waits r e x → (mark s.seen x (far e) ≡ true) ⊎ In (far e) (found lst far r x s).stack
         freed u e h i p =
-            ⊎_elim (λ y. inl y) (λ j. inr ((answered_at s x).keeps (far e) j)) ((sent_at s x).all e (fair.all x s.held e (c.waiting u e x h i p new) p))
+            ⊎_map (λ y. y) (λ j. (answered_at s x).keeps (far e) j) ((sent_at s x).all e (fair.all x s.held e (c.waiting u e x h i p new) p))
 
         over_old : (u : ℕ) (e : E) → s.seen u ≡ true → In e (lst u) → Opens r (mark s.seen x) e → (mark s.seen x (far e) ≡ true) ⊎ In (far e) (found lst far r x s).stack
         over_old u e h i (inl p) = lift (far e) (c.leads u e h i (inl p))
