@@ -60,17 +60,6 @@ bit-bit_xor a b k =
     ap (λ x. eqb (x % 2) 1) (xor_shr a b k) ∙ ap (λ x. eqb x 1) (xor_mod (a / 2 ^ k) (b / 2 ^ k) 1)
     ∙ xor_digit (a / 2 ^ k % 2) (b / 2 ^ k % 2) (below_two (a / 2 ^ k)) (below_two (b / 2 ^ k))
 
-less_bool : (x y : Bool) → ((x && not (x && y)) || (not x && (x && y))) ≡ (x && not y)
-less_bool true true = refl
-less_bool true false = refl
-less_bool false true = refl
-less_bool false false = refl
-
--- the digits of a that b lacks
-pub bit_less : (a b k : ℕ) → bit (bit_xor a (bit_and a b)) k ≡ (bit a k && not (bit b k))
-bit_less a b k =
-    bit-bit_xor a (bit_and a b) k ∙ ap (λ t. (bit a k && not t) || (not (bit a k) && t)) (bit-bit_and a b k) ∙ less_bool (bit a k) (bit b k)
-
 -- ---- single words
 
 pub bit_zero : (k : ℕ) → bit 0 k ≡ false
@@ -134,6 +123,24 @@ low_bits (suc j) (suc k) =
       | inl l ↦ lt-ltb j k l ∙ sym (lt-ltb (suc j) (suc k) (omega arith))
       | inr l ↦ le-ltb j k l ∙ sym (le-ltb (suc j) (suc k) (omega arith))
     ]
+
+-- ---- the digits that a word of k bits lacks
+
+flip_digit : (x y : ℕ) → x + y ≡ 1 → eqb x 1 ≡ not (eqb y 1)
+flip_digit zero (suc zero) e = refl
+flip_digit (suc zero) zero e = refl
+flip_digit zero zero e = absurd (omega arith)
+flip_digit zero (suc (suc y)) e = absurd (omega arith)
+flip_digit (suc zero) (suc y) e = absurd (omega arith)
+flip_digit (suc (suc x)) y e = absurd (omega arith)
+
+pub bit_flip : (k w j : ℕ) → w < 2 ^ k → j < k → bit (2 ^ k - 1 - w) j ≡ not (bit w j)
+bit_flip zero w j h l = absurd (omega arith)
+bit_flip (suc k) w zero h l =
+    bit_first (2 ^ suc k - 1 - w) ∙ flip_digit ((2 ^ suc k - 1 - w) % 2) (w % 2) (omega (arith, pow-suc 2 k)) ∙ sym (ap not (bit_first w))
+bit_flip (suc k) w (suc j) h l =
+    let half : (2 ^ suc k - 1 - w) / 2 ≡ 2 ^ k - 1 - w / 2 = omega (arith, pow-suc 2 k) in
+    bit_suc (2 ^ suc k - 1 - w) j ∙ ap (λ x. bit x j) half ∙ bit_flip k (w / 2) j (omega (arith, pow-suc 2 k)) (omega arith) ∙ sym (ap not (bit_suc w j))
 
 -- ---- the lowest digit that is set
 

@@ -1,1 +1,3 @@
-pub mod Failing
+pub mod Given
+pub mod Mixing
+pub mod Comparing

@@ -1,7 +1,8 @@
 // A set read and written a word at a time. Only these functions, the ones that make a set and `insert` touch its words.
-ghost use Rattle.std.specs.Prelude.{◌≡◌, ℕ, ◌+◌, ◌*◌, ◌/◌, ◌%◌, ◌<◌, ◌&&◌, if◌then◌else◌, nat_eq, nat_lt};
+ghost use Rattle.std.specs.Prelude.{◌≡◌, ℕ, ◌+◌, ◌/◌, ◌%◌, ◌<◌, Bool, ◌&&◌, if◌then◌else◌, nat_eq, nat_lt};
 ghost use Rattle.bits.specs.Bits.{bit};
-ghost use Rattle.sets.specs.Sets.{member, node_count};
+ghost use Rattle.sets.specs.Sets.{member, node_count, IsSetOf, IsWordOf};
+ghost use Rattle.sets.specs.Stepping.{TurnsWords};
 
 use crate::ix_set::IxSet;
 
@@ -22,7 +23,7 @@ impl<S> IxSet<S> {
 
     // The members 64 * i to 64 * i + 63 as a word, the lowest in bit 0; 0 past the last word.
     pub fn word(&self, i: usize) -> u64
-        ensures { (k : ℕ) → k < 64 → bit result k ≡ member self.now (i * 64 + k) }
+        ensures { IsWordOf (member self.now) i result }
     {
         if i < self.words.len() {
             self.words[i] // the lowest node in bit 0
@@ -34,8 +35,7 @@ impl<S> IxSet<S> {
     // Makes just those of the nodes 64 * i to 64 * i + 63 members whose bits are set in w. Bits beyond the last node are
     // not looked at.
     pub fn put_word(&mut self, i: usize, w: u64)
-        ensures nodes { node_count self.new ≡ node_count self.old }
-        ensures members { (n : ℕ) → member self.new n ≡ (if nat_eq (n / 64) i then bit w (n % 64) && nat_lt n (node_count self.old) else member self.old n) }
+        ensures { IsSetOf (λ n. if nat_eq (n / 64) i then bit w (n % 64) && nat_lt n (node_count self.old) else member self.old n) (node_count self.old) self.new }
     {
         if i >= self.words.len() {
             return;
@@ -44,5 +44,18 @@ impl<S> IxSet<S> {
         let new = w & low_bits(self.nodes as usize - i * 64);
         self.words[i] = new;
         self.count = self.count - old.count_ones() + new.count_ones();
+    }
+    // Each word becomes what `f` makes of its place and itself, cut to the nodes.
+    pub(crate) fn change_words<F: Fn(usize, u64) -> u64>(&mut self, f: F)
+        requires { F.IsAlwaysCallable f }
+        ensures { (p : ℕ → Bool) → TurnsWords (F.post f) (member self.old) p → IsSetOf (λ n. p n && nat_lt n (node_count self.old)) (node_count self.old) self.new }
+    {
+        let nodes = self.nodes as usize;
+        let mut count = 0;
+        for (i, word) in self.words.iter_mut().enumerate() {
+            *word = f(i, *word) & low_bits(nodes - i * 64);
+            count += word.count_ones();
+        }
+        self.count = count;
     }
 }

@@ -1,5 +1,5 @@
 -- One node more: its digit is set, the others stay, and the count grows by one.
-use Rattle.std.proofs.Common.{◌≡◌, ◌+◌, ◌/◌, ◌%◌, ◌<◌, true, false, not, ◌&&◌, ◌||◌, eqb, ltb, length, vec_items, sym, refl, ap, ◌∙◌, ap₂, arith}
+use Rattle.std.proofs.Common.{◌≡◌, ◌+◌, ◌/◌, ◌%◌, ◌<◌, true, false, ◌&&◌, ◌||◌, eqb, ltb, length, vec_items, sym, refl, ap, ◌∙◌, arith}
 use mathlib.Core.Bool.{and-true}
 use Rattle.std.proofs.lemmas.Nat.{one_shl}
 use Rattle.std.proofs.lemmas.List.{get_or_read}
@@ -23,9 +23,9 @@ invariant_of-self g c =
     let s = c.args.self.now in
     let ws = vec_items s.words in
     let n = c.index-n.result in
-    let word = c.index-word.result.now in
+    let word = c.index_mut.result.now in
     let l : n / 64 < length ws = omega (arith, s.words.ok.0, s.long) in
-    let was = get_or_read ws (n / 64) word l c.index-word.ensures 0 in
+    let was = get_or_read ws (n / 64) word l c.index_mut.ensures.value 0 in
     let lone = one_shl (n % 64) 64 (omega arith) in
     let free : has ws n ≡ false = ap (has ws) c.index-n.ensures ∙ sym c.contains.ensures ∙ c.if-contains.false in
     record {
@@ -35,19 +35,18 @@ invariant_of-self g c =
       counted = ap (λ k. k + 1) s.counted ∙ sym (put_count ws n word _ l was lone s.nodes (omega arith) free);
     }
 
-pub returns : goal.returns
-returns g c =
+pub returns-clause-set : goal.returns-clause-set
+returns-clause-set g c =
     let s = c.args.self.now in
     let ws = vec_items s.words in
     let n = c.index-n.result in
     let m = g.S.Ix.IndexType.number c.args.ix in
-    let word = c.index-word.result.now in
+    let word = c.index_mut.result.now in
     let l : n / 64 < length ws = omega (arith, s.words.ok.0, s.long) in
-    let was = get_or_read ws (n / 64) word l c.index-word.ensures 0 in
+    let was = get_or_read ws (n / 64) word l c.index_mut.ensures.value 0 in
     let lone = one_shl (n % 64) 64 (omega arith) in
     let node : ltb m s.nodes ≡ true = lt-ltb m s.nodes (omega (arith, c.index-n.ensures)) in
     record {
-      new = sym (ap₂ (λ a b. a && not b) node (sym c.contains.ensures ∙ c.if-contains.false));
       nodes = refl;
       members = λ k.
           put_has ws n word _ l was lone k

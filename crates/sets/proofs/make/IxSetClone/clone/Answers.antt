@@ -21,4 +21,4 @@ returns g c =
     let s = c.args.self.now in
     let made = c.in_ok-words.ensures.cases in
     let same : vec_items c.in_ok-words.words ≡ vec_items s.words = same_from_all_zip _ (vec_items s.words) (vec_items c.in_ok-words.words) made.0 (λ x y e. e) in
-    record { cases = (refl, λ n. ap (λ ws. has ws n) same) }
+    record { cases = record { nodes = refl; members = λ n. ap (λ ws. has ws n) same } }
