@@ -1,7 +1,7 @@
 -- Combines: of two sets a third is made, of the first one's graph: `how` says of a number whether the third has it, by whether
 -- the first has it and whether the second has it.  less, either: two ways to do so that have no name elsewhere.
 -- Assumes nothing.
-use Rattle.std.specs.Prelude.{ℕ, Bool, not, ◌&&◌, ◌||◌, nat_lt}
+use Rattle.std.specs.Prelude.{Bool, not, ◌&&◌, ◌||◌, nat_lt}
 use Rattle.sets.specs.declared.ix_set.IxSet.{IxSet}
 use Rattle.sets.specs.Sets.{member, node_count, IsSetOf}
 

@@ -1,5 +1,5 @@
 // A set read and written a word at a time. Only these functions, the ones that make a set and `insert` touch its words.
-ghost use Rattle.std.specs.Prelude.{◌≡◌, ℕ, ◌+◌, ◌/◌, ◌%◌, ◌<◌, Bool, ◌&&◌, if◌then◌else◌, nat_eq, nat_lt};
+ghost use Rattle.std.specs.Prelude.{◌≡◌, ℕ, ◌+◌, ◌/◌, ◌%◌, ◌<◌, Bool, not, ◌&&◌, if◌then◌else◌, ◌==◌, nat_eq, nat_lt, position};
 ghost use Rattle.bits.specs.Bits.{bit};
 ghost use Rattle.sets.specs.Sets.{member, node_count, IsSetOf, IsWordOf};
 ghost use Rattle.sets.specs.Stepping.{TurnsWords};
@@ -11,6 +11,13 @@ fn low_bits(k: usize) -> u64
     ensures { (j : ℕ) → j < 64 → bit result j ≡ nat_lt j k }
 {
     if k >= 64 { u64::MAX } else { (1 << k) - 1 }
+}
+
+// The place of the first word that is not 0.
+pub(crate) fn first_nonzero(words: &[u64]) -> Option<usize>
+    ensures { result ≡ position (λ word. not (word == 0)) words.now }
+{
+    words.iter().position(|word| *word != 0)
 }
 
 impl<S> IxSet<S> {

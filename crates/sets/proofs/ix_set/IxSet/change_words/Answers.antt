@@ -1,5 +1,5 @@
 -- One more word is made, cut to the nodes and counted; past the last word all members are counted.
-use Rattle.std.proofs.Common.{◌≡◌, ℕ, ◌+◌, ◌-◌, ◌*◌, ◌/◌, ◌%◌, ◌^◌, ◌<◌, ◌≤◌, Bool, ◌&&◌, ltb, length, get_or, set, take, drop, List, ◌++◌, vec_items, sym, refl, ap, ◌∙◌, subst, inl, inr, arith}
+use Rattle.std.proofs.Common.{◌≡◌, ℕ, ◌+◌, ◌*◌, ◌/◌, ◌%◌, ◌^◌, ◌<◌, ◌&&◌, ltb, length, get_or, set, take, drop, List, ◌++◌, sym, ap, ◌∙◌, subst, inl, inr, arith}
 use lib.Bits.{bit_and}
 use Rattle.std.proofs.lemmas.List.{get_or-set_other}
 use Rattle.std.proofs.Math.Seq.{take-append_seam}
@@ -73,5 +73,5 @@ invariant_of-self g c =
       long = s.long;
       within = λ n l. ap (λ xs. has xs n) is ∙ c.loop-i.invariant.within n l;
       counted = c.loop-i.invariant.counted ∙ count_past (has ws) s.nodes (c.loop-i.i * 64) c.loop-i.invariant.within (omega (arith, s.long, c.deref_mut-word-items.ensures.len))
-      ∙ sym (ap (λ xs. how_many (has xs) s.nodes) is);
+          ∙ sym (ap (λ xs. how_many (has xs) s.nodes) is);
     }

@@ -1,5 +1,5 @@
 -- The word 0 has no number.
-use Rattle.std.proofs.Common.{◌≡◌, ℕ, false, ap, ◌∙◌, rules}
+use Rattle.std.proofs.Common.{◌≡◌, false, ap, ◌∙◌, rules}
 use Rattle.bits.specs.Bits.{bit}
 use Rattle.bits.proofs.Digits.{bit_zero}
 use Rattle.sets.proofs.ix_set.IxSet.clear.Goals as goal

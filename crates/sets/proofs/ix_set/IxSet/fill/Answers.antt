@@ -1,5 +1,5 @@
 -- The word of 64 digits that are set has each of its numbers.
-use Rattle.std.proofs.Common.{◌≡◌, ℕ, true, ◌-◌, ◌^◌, ap, ◌∙◌, rules}
+use Rattle.std.proofs.Common.{◌≡◌, true, ◌-◌, ◌^◌, ap, ◌∙◌, rules}
 use Rattle.std.proofs.lemmas.Bool.{lt-ltb}
 use Rattle.bits.specs.Bits.{bit}
 use Rattle.bits.proofs.Digits.{low_bits}
