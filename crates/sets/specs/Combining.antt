@@ -1,5 +1,5 @@
 -- Combines: of two sets a third is made, of the first one's graph: `how` says of a number whether the third has it, by whether
--- the first has it and whether the second has it.  less, either: two ways to do so that have no name elsewhere.
+-- the first has it and whether the second has it.  and_not, xor: two ways to do so beside ◌||◌ and ◌&&◌.
 -- Assumes nothing.
 use Rattle.std.specs.Prelude.{Bool, not, ◌&&◌, ◌||◌, nat_lt}
 use Rattle.sets.specs.declared.ix_set.IxSet.{IxSet}
@@ -8,10 +8,8 @@ use Rattle.sets.specs.Sets.{member, node_count, IsSetOf}
 abbrev pub Combines : {S : Type 0} → (Bool → Bool → Bool) → IxSet S → IxSet S → IxSet S → Type 0
 Combines how s t r = IsSetOf (λ n. how (member s n) (member t n) && nat_lt n (node_count s)) (node_count s) r
 
--- the first has it and the second lacks it
-abbrev pub less : Bool → Bool → Bool
-less a b = a && not b
+abbrev pub and_not : Bool → Bool → Bool
+and_not a b = a && not b
 
--- one of the two has it and the other lacks it
-abbrev pub either : Bool → Bool → Bool
-either a b = (a && not b) || (not a && b)
+abbrev pub xor : Bool → Bool → Bool
+xor a b = (a && not b) || (not a && b)

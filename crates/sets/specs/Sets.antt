@@ -1,8 +1,8 @@
 -- What a set means.  node_count: how many nodes its graph has.  member: whether a number is a member.
 -- members: the members, ascending.  IsSetOf: a set is one of a graph of so many nodes, and its members are just the numbers
--- that pass a test.  IsWordOf: so is a word, for its 64 numbers.  SameMembers: two sets have the same.  Tells: a yes or no
--- says whether a fact holds.  Assumes nothing.
-use Rattle.std.specs.Prelude.{◌≡◌, ℕ, ◌+◌, ◌*◌, ◌<◌, Bool, true, List, vec_items}
+-- that pass a test.  IsWordOf: so is a word, for its 64 numbers.  SameMembers: two sets have the same.
+-- Assumes nothing.
+use Rattle.std.specs.Prelude.{◌≡◌, ℕ, ◌+◌, ◌*◌, ◌<◌, Bool, List, vec_items}
 use Rattle.bits.specs.Bits.{bit, has, listing}
 use Rattle.sets.specs.declared.ix_set.IxSet.{IxSet}
 
@@ -26,7 +26,3 @@ IsWordOf p i w = (k : ℕ) → k < 64 → bit w k ≡ p (i * 64 + k)
 -- the same numbers are members of both
 abbrev pub SameMembers : {S : Type 0} → IxSet S → IxSet S → Type 0
 SameMembers s t = (n : ℕ) → member s n ≡ member t n
-
--- an answer tells whether a fact holds
-abbrev pub Tells : Bool → Type 0 → Type 0
-Tells answer fact = (answer ≡ true → fact) × (fact → answer ≡ true)

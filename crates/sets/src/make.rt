@@ -1,4 +1,4 @@
-// Sets made: empty, and of given indexes.
+// Sets made: empty, of given indexes, and as copies. A set that is not made is told why.
 ghost use Rattle.std.specs.Prelude.{◌≡◌, false, map, IfOk};
 ghost use Rattle.sets.specs.declared.make.Unmade.TheVariants.{Refused, NoMemory};
 ghost use Rattle.sets.specs.Sets.{member, node_count, IsSetOf};
@@ -10,7 +10,7 @@ use index::spec::{GraphSpec, IndexType};
 use std::alloc::{AllocError, Global};
 
 // Why no set was made: an index was refused, or there was no memory for its words.
-#[derive(Clone, Copy)]
+#[derive(Clone, Copy, PartialEq, Eq, Debug)]
 pub enum Unmade {
     Refused(Refusal),
     NoMemory,
@@ -69,7 +69,7 @@ impl<S: GraphSpec> IxSet<S> {
     }
 }
 
-// A set of its own with the same members.
+// A set of its own with the same members. By hand: no derive clones a struct that has ghost fields.
 impl<S: GraphSpec> Clone for IxSet<S> {
     ghost is_clone = { λ s t. IsSetOf (member s) (node_count s) t };
 

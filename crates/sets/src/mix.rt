@@ -1,8 +1,8 @@
 // Two sets made one, word by word, and two sets compared. A set that is changed stays one of its own graph: members of the
 // other beyond that graph are left out.
-ghost use Rattle.std.specs.Prelude.{◌≡◌, ◌&&◌, ◌||◌, IfOk};
-ghost use Rattle.sets.specs.Sets.{SameMembers, Tells};
-ghost use Rattle.sets.specs.Combining.{Combines, less, either};
+ghost use Rattle.std.specs.Prelude.{◌≡◌, ◌↔◌, ◌&&◌, ◌||◌, IfOk, IsTrue};
+ghost use Rattle.sets.specs.Sets.{SameMembers};
+ghost use Rattle.sets.specs.Combining.{Combines, and_not, xor};
 
 use crate::ix_set::IxSet;
 use index::spec::GraphSpec;
@@ -22,23 +22,23 @@ impl<S: GraphSpec> IxSet<S> {
     }
 
     pub fn symmetric_difference_with(&mut self, other: &IxSet<S>)
-        ensures { Combines either self.old other.now self.new }
+        ensures { Combines xor self.old other.now self.new }
     {
         self.change_words(|i, word| word ^ other.word(i));
     }
 
     // The members that the other set lacks, as a set of their own.
     pub fn difference(&self, other: &IxSet<S>) -> Result<IxSet<S>, AllocError>
-        ensures { IfOk result (Combines less self.now other.now) }
+        ensures { IfOk result (Combines and_not self.now other.now) }
     {
         let mut rest = self.clone()?;
         rest.change_words(|i, word| word & !other.word(i));
         Ok(rest)
     }
 
-    // Whether the two have the same members. A derived `==` would say more: that their graphs are the same too.
+    // Whether the two have the same members, whatever their graphs. A derived `==` would ask for the same graphs too.
     pub fn equals(&self, other: &IxSet<S>) -> bool
-        ensures { Tells result (SameMembers self.now other.now) }
+        ensures { IsTrue result ↔ SameMembers self.now other.now }
     {
         let words = self.word_count().max(other.word_count());
         self.count == other.count && (0..words).all(|i| self.word(i) == other.word(i))

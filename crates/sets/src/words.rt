@@ -1,4 +1,5 @@
-// A set read and written a word at a time. Only these functions, the ones that make a set and `insert` touch its words.
+// A set read and written a word at a time, and all its words changed. Only these functions, the ones that make a set, its
+// cursors and `insert` touch its words.
 ghost use Rattle.std.specs.Prelude.{◌≡◌, ℕ, ◌+◌, ◌/◌, ◌%◌, ◌<◌, Bool, not, ◌&&◌, if◌then◌else◌, ◌==◌, nat_eq, nat_lt, position};
 ghost use Rattle.bits.specs.Bits.{bit};
 ghost use Rattle.sets.specs.Sets.{member, node_count, IsSetOf, IsWordOf};
@@ -32,11 +33,7 @@ impl<S> IxSet<S> {
     pub fn word(&self, i: usize) -> u64
         ensures { IsWordOf (member self.now) i result }
     {
-        if i < self.words.len() {
-            self.words[i] // the lowest node in bit 0
-        } else {
-            0
-        }
+        self.words.get(i).copied().unwrap_or(0)
     }
 
     // Makes just those of the nodes 64 * i to 64 * i + 63 members whose bits are set in w. Bits beyond the last node are
@@ -52,7 +49,9 @@ impl<S> IxSet<S> {
         self.words[i] = new;
         self.count = self.count - old.count_ones() + new.count_ones();
     }
-    // Each word becomes what `f` makes of its place and itself, cut to the nodes.
+
+    // Each word becomes what `f` makes of its place and itself, cut to the nodes. Where f makes, of the words of the members,
+    // those of the numbers that pass some test, the nodes that pass it are then the members.
     pub(crate) fn change_words<F: Fn(usize, u64) -> u64>(&mut self, f: F)
         requires { F.IsAlwaysCallable f }
         ensures { (p : ℕ → Bool) → TurnsWords (F.post f) (member self.old) p → IsSetOf (λ n. p n && nat_lt n (node_count self.old)) (node_count self.old) self.new }
