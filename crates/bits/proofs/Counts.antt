@@ -169,5 +169,5 @@ listing_lists p n stop = record {
     small : (k : ℕ) → p k ≡ true → k < n
     small k t = elim (cases_lt k n) [
       | inl l ↦ l
-      | inr l ↦ let f : p k ≡ false = stop k l in let z : ◌≡◌ {A = ℕ} 0 1 = cc in absurd (omega arith)
+      | inr l ↦ let f : p k ≡ false = stop k l in cc
     ]

@@ -123,7 +123,7 @@ gives p count r b remaining row bits k x within counted same some fits is lone =
     node : m < count
     node = elim (cases_lt m count) [
       | inl l ↦ l
-      | inr l ↦ let no : true ≡ false = sym here ∙ same m ∙ within m l in let z : ◌≡◌ {A = ℕ} 0 1 = cc in absurd (omega arith)
+      | inr l ↦ let no : true ≡ false = sym here ∙ same m ∙ within m l in cc
     ]
 
     first : listing (pending p r b) count ≡ m ∷ listing (pending p row (bit_xor bits x)) count

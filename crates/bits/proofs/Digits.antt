@@ -184,7 +184,7 @@ bit_cleared w x k j is t =
   where
     at : (b : Bool) → b ≡ true → ((b && false) || (not b && true)) ≡ (b && false)
     at true e = refl
-    at false e = let z : true ≡ false = sym e in cc
+    at false e = cc
 
     off : (b : Bool) → ((b && true) || (not b && false)) ≡ (b && true)
     off true = refl
@@ -203,8 +203,8 @@ bit_cleared w x k j is t =
 same_digit : (x y : ℕ) → x < 2 → y < 2 → eqb x 1 ≡ eqb y 1 → x ≡ y
 same_digit zero zero h k e = refl
 same_digit (suc zero) (suc zero) h k e = refl
-same_digit zero (suc zero) h k e = absurd (let z : ◌≡◌ {A = Bool} true false = sym e in let y : ◌≡◌ {A = ℕ} 0 1 = cc in omega arith)
-same_digit (suc zero) zero h k e = absurd (let z : ◌≡◌ {A = Bool} true false = e in let y : ◌≡◌ {A = ℕ} 0 1 = cc in omega arith)
+same_digit zero (suc zero) h k e = cc
+same_digit (suc zero) zero h k e = cc
 same_digit zero (suc (suc y)) h k e = absurd (omega arith)
 same_digit (suc zero) (suc (suc y)) h k e = absurd (omega arith)
 same_digit (suc (suc x)) y h k e = absurd (omega arith)

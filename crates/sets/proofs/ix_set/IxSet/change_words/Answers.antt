@@ -6,7 +6,7 @@ use Rattle.std.proofs.Math.Seq.{take-append_seam}
 use Rattle.std.proofs.lemmas.Bool.{cases_eq}
 use Rattle.bits.specs.Bits.{bit, has, how_many}
 use Rattle.bits.proofs.Counts.{count_zero, count_past, count_most}
-use Rattle.bits.proofs.Rows.{stored_here, stored_there, stored_below, stored_more, word_has}
+use Rattle.bits.proofs.Rows.{Cut, stored_here, stored_there, stored_below, stored_more, word_has}
 use Rattle.sets.specs.Sets.{member}
 use Rattle.sets.proofs.ix_set.IxSet.change_words.Goals as goal
 
@@ -27,10 +27,11 @@ overflow_add-count g c =
     let s = c.args.self.now in
     let ws = c.loop-i.word-items in
     let i = c.loop-i.i in
-    let l : i < length ws = omega arith in
-    let below = stored_below ws i c.f.result c.low_bits.result s.nodes l c.low_bits.type_inv c.low_bits.ensures c.loop-i.invariant.within in
-    let counted = stored_more ws i c.f.result c.low_bits.result s.nodes l c.low_bits.type_inv c.low_bits.ensures c.loop-i.count c.loop-i.invariant.counted in
-    let most = count_most (has (set ws i (bit_and c.f.result c.low_bits.result))) s.nodes ((i + 1) * 64) below in
+    let r = c.f.result in
+    let m = c.low_bits.result in
+    let cut : Cut ws i r m s.nodes = record { inside = omega arith; fits = c.low_bits.type_inv; low = c.low_bits.ensures } in
+    let counted = stored_more cut c.loop-i.count c.loop-i.invariant.counted in
+    let most = count_most (has (set ws i (bit_and r m))) s.nodes ((i + 1) * 64) (stored_below cut c.loop-i.invariant.within) in
     let few = s.few in
     omega arith
 
@@ -42,21 +43,21 @@ loop-i-preserved g c =
     let w = get_or ws i 0 in
     let r = c.f.result in
     let m = c.low_bits.result in
-    let l : i < length ws = omega arith in
-    let low = c.low_bits.ensures in
+    let keeps = c.loop-i.invariant in
+    let cut : Cut ws i r m s.nodes = record { inside = omega arith; fits = c.low_bits.type_inv; low = c.low_bits.ensures } in
+    let word : (k : ℕ) → k < 64 → bit w k ≡ member s (i * 64 + k) = λ k l. word_has ws i k l ∙ keeps.rest (i * 64 + k) (omega arith) in
     record {
       made = λ p h n b. elim (cases_eq (n / 64) i) [
         | inl e ↦
             let at : i * 64 + n % 64 ≡ n = omega arith in
-            let word : (k : ℕ) → k < 64 → bit w k ≡ member s (i * 64 + k) = λ k k<64. word_has ws i k k<64 ∙ c.loop-i.invariant.rest (i * 64 + k) (omega arith) in
-            stored_here ws i r m s.nodes l c.low_bits.type_inv low n e
-            ∙ ap (λ b. b && ltb n s.nodes) (h i w r (omega arith) (c.loop-i.invariant.fits i (omega arith)) word c.f.ensures (n % 64) (omega arith) ∙ ap p at)
-        | inr d ↦ stored_there ws i r m s.nodes l c.low_bits.type_inv low n d ∙ c.loop-i.invariant.made p h n (omega (arith, d))
+            stored_here cut n e
+            ∙ ap (λ b. b && ltb n s.nodes) (h i w r (omega arith) (keeps.fits i (omega arith)) word c.f.ensures (n % 64) (omega arith) ∙ ap p at)
+        | inr d ↦ stored_there cut n d ∙ keeps.made p h n (omega (arith, d))
       ];
-      rest = λ n b. stored_there ws i r m s.nodes l c.low_bits.type_inv low n (λ e. omega arith) ∙ c.loop-i.invariant.rest n (omega arith);
-      fits = λ k b. subst (λ x. x < 2 ^ 64) (sym (get_or-set_other ws i k (bit_and r m) 0 (λ e. omega arith))) (c.loop-i.invariant.fits k (omega arith));
-      within = stored_below ws i r m s.nodes l c.low_bits.type_inv low c.loop-i.invariant.within;
-      counted = stored_more ws i r m s.nodes l c.low_bits.type_inv low c.loop-i.count c.loop-i.invariant.counted;
+      rest = λ n b. stored_there cut n (λ e. omega arith) ∙ keeps.rest n (omega arith);
+      fits = λ k b. subst (λ x. x < 2 ^ 64) (sym (get_or-set_other ws i k (bit_and r m) 0 (λ e. omega arith))) (keeps.fits k (omega arith));
+      within = stored_below cut keeps.within;
+      counted = stored_more cut c.loop-i.count keeps.counted;
     }
 
 -- the words that are put back
