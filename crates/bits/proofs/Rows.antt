@@ -90,8 +90,8 @@ module _ {ws : List ℕ} {i w m n : ℕ} (h : Cut ws i w m n) where
 
   pub stored_has : (k : ℕ) → has (set ws i (bit_and w m)) k ≡ cond (eqb (k / 64) i) (bit w (k % 64) && ltb k n) (has ws k)
   stored_has k = elim (cases_eq (k / 64) i) [
-    | inl e ↦ stored_here k e ∙ sym (ap (λ b. cond b (bit w (k % 64) && ltb k n) (has ws k)) (eq-eqb (k / 64) i e))
-    | inr d ↦ stored_there k d ∙ sym (ap (λ b. cond b (bit w (k % 64) && ltb k n) (has ws k)) (ne_eqb (k / 64) i d))
+    | inl e ↦ rw (eq-eqb (k / 64) i e) (stored_here k e)
+    | inr d ↦ rw (ne_eqb (k / 64) i d) (stored_there k d)
   ]
 
   pub stored_below : Below ws n → Below (set ws i (bit_and w m)) n

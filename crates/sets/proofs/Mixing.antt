@@ -25,7 +25,7 @@ turns op how step p q digits puts i w r i< w< is did k l =
 
 -- the digits of a that b lacks
 pub without : GoesByDigits (λ a b. bit_and a (2 ^ 64 - 1 - b)) (λ x y. x && not y)
-without a b k b< l = bit-bit_and a (2 ^ 64 - 1 - b) k ∙ ap (λ t. bit a k && t) (bit_flip 64 b k b< l)
+without a b k b< l = bit-bit_and a (2 ^ 64 - 1 - b) k ∙ ap (λ t. bit a k && t) (bit_flip b k b< l)
 
 -- a copy of the first set gives what the set gives
 pub Combines-copy : {S : Type 0} (how : Bool → Bool → Bool) (s copy t r : IxSet S) → IsSetOf (member s) (node_count s) copy → Combines how copy t r → Combines how s t r
