@@ -1,6 +1,6 @@
 -- What a filter holds and hands out, with edges turned round. Assumes nothing.
-use Rattle.std.proofs.Common.{◌≡◌, ℕ, ◌≤◌, Bool, true, false, cond, List, [], ◌∷◌, ◌++◌, map, length, take, drop, Some, None, filter, Option, sym, refl, ap, ◌∙◌, inl, inr}
-use Rattle.std.proofs.lemmas.List.{map-append, length-map, length-take-le, take_at}
+use Rattle.std.proofs.Common.{◌≡◌, ℕ, Bool, true, false, cond, List, [], ◌∷◌, ◌++◌, map, length, Some, None, filter, Option, sym, refl, ap, ◌∙◌, inl, inr}
+use Rattle.std.proofs.lemmas.List.{map-append, length-map}
 use Rattle.theory.specs.Edges.{Edge, In, turn}
 use Rattle.theory.specs.Rules.{Rule, Fair, held_for, waits_on, stays_at}
 use Rattle.graph.specs.Meaning.{meant, turned_ref}
@@ -63,8 +63,3 @@ module _ {W : Type 0} where
 pub meant_turned : {I W : Type 0} (number : I → ℕ) (es : List (EdgeRef I W)) → map (meant number) (map turned_ref es) ≡ map turn (map (meant number) es)
 meant_turned number [] = refl
 meant_turned number (x ∷ xs) = ap (λ l. turn (meant number x) ∷ l) (meant_turned number xs)
-
--- a table whose front was mapped
-pub front_mapped : {X : Type 0} (t : X → X) (xs ys : List X) (n : ℕ) → n ≤ length xs → ys ≡ map t (take n xs) ++ drop n xs → take n ys ≡ map t (take n xs)
-front_mapped t xs ys n h e =
-    ap (take n) e ∙ take_at (map t (take n xs)) (drop n xs) n (length-map (take n xs) t ∙ length-take-le n xs h)

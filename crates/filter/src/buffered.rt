@@ -11,11 +11,11 @@ ghost use Rattle.filter.specs.Filters.{Untold, Discovers};
 use graph::edge::EdgeRef;
 use index::spec::IndexType;
 
-// An entry of a hold table: an edge, and what the filter that holds it likes to link it with.
-#[derive(Clone, Copy)]
+// An entry of a hold table: an edge, and the place of the entry that the filter links it with, if any.
+#[derive(Clone, Copy, PartialEq, Eq, Debug)]
 pub struct Held<E> {
     pub edge: E,
-    pub next: usize,
+    pub next: Option<usize>,
 }
 
 // Its meaning has a fixed part, the rule: which edges pass, which node an edge waits on, and in what order held edges go

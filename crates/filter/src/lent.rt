@@ -1,4 +1,4 @@
-// A filter that is lent, and one of two filters: filters of the same meaning.
+// A filter that is lent is a filter of the same meaning.
 ghost use Rattle.std.specs.Prelude.{◌≡◌};
 
 use crate::buffered::{BufferedEdgeFilter, Held};
