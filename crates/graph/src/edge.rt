@@ -3,7 +3,7 @@ ghost use Rattle.std.specs.Prelude.{◌≡◌};
 ghost use Rattle.graph.specs.Meaning.{turned_ref};
 
 // The number is one that no other edge of the graph has. The weight is the edge's record.
-#[derive(Clone, Copy)]
+#[derive(Clone, Copy, PartialEq, Eq, Debug)]
 pub struct EdgeRef<I, W> {
     pub source: I,
     pub target: I,
