@@ -40,10 +40,6 @@ pub trait BufferedEdgeFilter {
     // The filter and the hold table fit together.
     ghost fit: { Self → List (AnyHeld (AnyRef Self.Ix Self.Weight)) → Type 0 };
 
-    // What every rule keeps to. The call runs nothing: its promise is for the proof that makes it.
-    fn fair(&self)
-        ensures { Fair (rule self.now) };
-
     // Nothing is told, nothing is held.
     fn begin(&mut self)
         ensures same { rule self.new ≡ rule self.old }
@@ -82,4 +78,7 @@ pub trait BufferedEdgeFilter {
         ensures same { rule self.new ≡ rule self.old }
         ensures within { result ≤ length hand.old }
         ensures discovers { Discovers (rule self.old) (Self.Ix.IndexType.number node) (told self.old) (told self.new) (held self.old hold.old) (held self.new hold.new) (map (meant Self.Ix.IndexType.number) (take result hand.new)) };
+
+    // What every rule keeps to.
+    ghost fair: { (s : Self) → Fair (rule s) };
 }

@@ -20,9 +20,7 @@ impl<F: BufferedEdgeFilter> BufferedEdgeFilter for &mut F {
 
     ghost fit = { λ s. F.BufferedEdgeFilter.fit s.now };
 
-    fn fair(&self) {
-        (**self).fair();
-    }
+    ghost fair = { λ s. F.BufferedEdgeFilter.fair s.now };
 
     fn begin(&mut self) {
         (**self).begin();

@@ -25,9 +25,7 @@ impl<
 
     ghost fit = { λ s. elim s [ LeftOf a ↦ A.BufferedEdgeFilter.fit a | RightOf b ↦ B.BufferedEdgeFilter.fit b ] };
 
-    fn fair(&self) {
-        for_both!(self, f => f.fair())
-    }
+    ghost fair = { elim [ LeftOf a ↦ A.BufferedEdgeFilter.fair a | RightOf b ↦ B.BufferedEdgeFilter.fair b ] };
 
     fn begin(&mut self) {
         for_both!(self, f => f.begin())

@@ -3,6 +3,7 @@ ghost use Rattle.std.specs.Prelude.{◌≡◌, map};
 ghost use Rattle.theory.specs.Edges.{turn as swapped};
 ghost use Rattle.graph.specs.Meaning.{turned_ref};
 ghost use Rattle.filter.specs.Filters.{turned_rule};
+ghost use Rattle.filter.specs.Turning.{turned_fair};
 
 use crate::buffered::{BufferedEdgeFilter, Held};
 use graph::edge::{EdgeRef, turned};
@@ -37,10 +38,7 @@ impl<F: BufferedEdgeFilter> BufferedEdgeFilter for ReversedBufferedFilter<F> {
 
     ghost fit = { λ s. F.BufferedEdgeFilter.fit s.0 };
 
-    #[tactic(auto, using(crate::proofs::Turned::turned_fair))]
-    fn fair(&self) {
-        self.0.fair(); // and a fair rule stays fair as edges are turned
-    }
+    ghost fair = { λ s. turned_fair (F.BufferedEdgeFilter.rule s.0) (F.BufferedEdgeFilter.fair s.0) };
 
     fn begin(&mut self) {
         self.0.begin();

@@ -1,7 +1,8 @@
 // A filter that holds nothing: it asks a test about each edge. Two tests: a verdict on package edges, and one that every edge
 // passes.
-ghost use Rattle.std.specs.Prelude.{◌≡◌, Bool, true, false, []};
+ghost use Rattle.std.specs.Prelude.{◌≡◌, Bool, true, false, [], None as Nothing};
 ghost use Rattle.theory.specs.Edges.{Edge};
+ghost use Rattle.theory.proofs.Asking.{in_turn_fair};
 ghost use Rattle.graph.specs.Meaning.{meant};
 ghost use Rattle.filter.specs.Filters.{by_link, by_test};
 
@@ -74,8 +75,7 @@ impl<T: EdgeTest> BufferedEdgeFilter for SimpleEdgeFilterFn<T> {
 
     ghost fit = { λ _ _. Unit {0} };
 
-    #[tactic(auto, using(theory::proofs::Asking::in_turn_fair))]
-    fn fair(&self) {}
+    ghost fair = { λ s. in_turn_fair (T.EdgeTest.passes s.0) (λ _. Nothing) };
 
     fn begin(&mut self) {}
 

@@ -31,7 +31,7 @@ impl<'a> Verdict for TableVerdict<'a> {
     ghost accepts = { λ v link. marked v.bytes.now link.edge link.half };
 
     fn accept(&mut self, link: Link) -> bool {
-        let place = 3 * link.edge as usize + link.half.number() as usize;
+        let place = 3 * link.edge as usize + u32::from(link.half) as usize;
         self.bytes.get(place).is_some_and(|&byte| byte != 0)
     }
 }
