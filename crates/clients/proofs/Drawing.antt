@@ -6,7 +6,7 @@ use Rattle.index.specs.declared.records.FeatureEdge.{FeatureEdge}
 use Rattle.index.specs.declared.records.WeakIndex.{WeakIndex}
 use Rattle.index.specs.declared.refusal.Refusal.{Refusal}
 use Rattle.index.specs.Records.{read_feature_edge, weak_of}
-use Rattle.draft.specs.Table.{laid}
+use Rattle.tables.specs.Table.{laid}
 use Rattle.draft.specs.Drafting.{State, SetsUp, TakesPair, TakesPairBy, pair_refused, TakesEdge, room_for, unregistered}
 use Rattle.draft.proofs.Deciding.{sets_up, edge_fits, takes}
 

@@ -12,7 +12,7 @@ use Rattle.index.specs.declared.refusal.Refusal.TheVariants.{TooManyNodes, Table
 use Rattle.weak.specs.declared.table.WeakDependencies.{WeakDependencies}
 use Rattle.weak.specs.Registered.{pairs, register, registered}
 use Rattle.draft.specs.declared.raw.Raw.{Raw}
-use Rattle.draft.specs.Table.{laid}
+use Rattle.tables.specs.Table.{laid}
 
 -- a draft: the words of its table, how many nodes and edges they hold, and the weak pairs
 pub record State : Type 0 where

@@ -1,7 +1,7 @@
 // Drafts: graphs that still take weak pairs and edges.
 ghost use Rattle.std.specs.Prelude.{◌≡◌, ℕ, List, []};
 ghost use Rattle.weak.specs.Registered.{pairs as pairs_of};
-ghost use Rattle.draft.specs.Table.{Room, Chains};
+ghost use Rattle.tables.specs.Table.{Room, Chains};
 ghost use Rattle.draft.specs.Drafting.{state_of, SetsUp, TakesPair, TakesEdge};
 
 use crate::raw::Raw;

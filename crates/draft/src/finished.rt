@@ -5,7 +5,9 @@ ghost use Rattle.std.specs.List.{slice_get};
 ghost use Rattle.theory.specs.Edges.{leaves, enters};
 ghost use Rattle.theory.specs.Chains.{from};
 ghost use Rattle.weak.specs.Registered.{pairs as pairs_of};
-ghost use Rattle.draft.specs.Table.{Room, Chains, edge_at, laid};
+ghost use Rattle.tables.specs.Table.{Room, Chains, edge_at, laid};
+ghost use Rattle.tables.proofs.Laying.{whole};
+ghost use Rattle.tables.proofs.Reading.{table_sound, table_tied};
 
 use crate::draft::Draft;
 use crate::raw::Raw;
@@ -102,7 +104,8 @@ impl<'a, S: GraphSpec> Graph for FinishedGraph<'a, S> {
 
     ghost rest = { λ g c. (if c.forward then from (λ e. e.source) (edge_at S.Edge.EdgeRecord.held g.words.now g.nodes) g.edges c.link else from (λ e. e.target) (edge_at S.Edge.EdgeRecord.held g.words.now g.nodes) g.edges c.link) };
 
-    fn sound(&self) {}
+    // The edges of a table with chains are those of a graph.
+    ghost sound = { λ g. table_sound S.Edge.EdgeRecord.held g.words.now g.nodes g.edges (whole g.chains) g.room.0 g.room.1 };
 
     fn node_bound(&self) -> u32 {
         self.nodes // every index below is a node
@@ -159,7 +162,8 @@ impl<'a, S: GraphSpec> Graph for FinishedGraph<'a, S> {
 impl<'a, S: GraphSpec> BothWays for FinishedGraph<'a, S> {
     ghost ins = { λ g n. filter (enters n) (laid S.Edge.EdgeRecord.held g.words.now g.nodes g.edges) };
 
-    fn tied(&self) {}
+    // Both kinds of list are filters of one list of edges.
+    ghost tied = { λ g. table_tied S.Edge.EdgeRecord.held g.words.now g.nodes g.edges (whole g.chains) };
 
     fn incoming(&self, n: S::Ix) -> EdgeCursor {
         let n = n.index();

@@ -1,6 +1,6 @@
 // The words of a draft, written by two functions whose promises say what stands where.
 ghost use Rattle.std.specs.Prelude.{◌≡◌, ℕ, ◌+◌, ◌*◌, ◌<◌, ◌≤◌, length, slice_index};
-ghost use Rattle.draft.specs.Table.{Laid, Put};
+ghost use Rattle.tables.specs.Table.{Laid, Put};
 
 // A caller's table, and how many nodes and edges it holds.
 #[derive(Drop)]

@@ -30,10 +30,6 @@ pub trait Graph {
     // The edges that a cursor has still to give.
     ghost rest: { Self → Self.Cursor → List (Edge Self.Weight) };
 
-    // What every graph keeps to. The call runs nothing: its promise is for the proof that makes it.
-    fn sound(&self)
-        ensures { Sound (node self.now) (bound self.now) (edges self.now) (outs self.now) };
-
     fn node_bound(&self) -> u32
         ensures { result ≡ bound self.now };
 
@@ -50,18 +46,19 @@ pub trait Graph {
     // The next edge of a list.
     fn next(&self, c: &mut Self::Cursor) -> Option<EdgeRef<Self::Ix, Self::Weight>>
         ensures { Steps (rest self.now c.old) (option_map (meant Self.Ix.IndexType.number) result) (rest self.now c.new) };
+
+    // What every graph keeps to.
+    ghost sound: { (g : Self) → Sound (node g) (bound g) (edges g) (outs g) };
 }
 
 // A graph walked both ways is a graph walked forward that has incoming lists too.
 pub trait BothWays: Graph {
     ghost ins: { Self → ℕ → List (Edge Self.Weight) };
 
-    // What ties the incoming lists to the outgoing ones. The call runs nothing.
-    fn tied(&self)
-        ensures { Tied (Self.Graph.outs self.now) (ins self.now) };
-
     // The incoming list of n, from its first edge.
     fn incoming(&self, n: Self::Ix) -> Self::Cursor
-        ensures list { Self.Graph.rest self.now result ≡ ins self.now (Self.Ix.IndexType.number n) }
-        ensures tied { Tied (Self.Graph.outs self.now) (ins self.now) };
+        ensures { Self.Graph.rest self.now result ≡ ins self.now (Self.Ix.IndexType.number n) };
+
+    // What ties the incoming lists to the outgoing ones.
+    ghost tied: { (g : Self) → Tied (Self.Graph.outs g) (ins g) };
 }

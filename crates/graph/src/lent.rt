@@ -23,9 +23,7 @@ impl<G: Graph> Graph for &G {
 
     ghost rest = { λ g. G.Graph.rest g.now };
 
-    fn sound(&self) {
-        (**self).sound();
-    }
+    ghost sound = { λ g. G.Graph.sound g.now };
 
     fn node_bound(&self) -> u32 {
         (**self).node_bound()
@@ -51,9 +49,7 @@ impl<G: Graph> Graph for &G {
 impl<G: BothWays> BothWays for &G {
     ghost ins = { λ g. G.BothWays.ins g.now };
 
-    fn tied(&self) {
-        (**self).tied();
-    }
+    ghost tied = { λ g. G.BothWays.tied g.now };
 
     fn incoming(&self, n: G::Ix) -> G::Cursor {
         (**self).incoming(n)

@@ -1,6 +1,7 @@
 // Views of a graph: turned round, cut down to a set of nodes, and lent.
 ghost use Rattle.std.specs.Prelude.{◌≡◌, ℕ, Bool, ◌&&◌, List, map, filter};
 ghost use Rattle.theory.specs.Edges.{turn, within};
+ghost use Rattle.theory.proofs.Turning.{turned_sound, turned_tied, filtered_sound, filtered_tied};
 
 use crate::edge::{EdgeRef, turned};
 use crate::graph::{BothWays, Graph};
@@ -17,7 +18,7 @@ pub trait NodeSet {
 }
 
 // A graph with every edge turned round, and the incoming lists in place of the outgoing ones.
-#[derive(Clone, Copy)]
+#[derive(Clone, Copy, PartialEq, Eq, Debug)]
 pub struct Reversed<G>(pub G);
 
 impl<G: BothWays> Graph for Reversed<G> {
@@ -37,10 +38,8 @@ impl<G: BothWays> Graph for Reversed<G> {
 
     ghost rest = { λ g c. map turn (G.Graph.rest g.0 c) };
 
-    fn sound(&self) {
-        self.0.sound();
-        self.0.tied(); // the incoming lists are the ones walked
-    }
+    // The incoming lists are the ones walked.
+    ghost sound = { λ g. turned_sound (G.Graph.sound g.0) (G.BothWays.tied g.0) };
 
     fn node_bound(&self) -> u32 {
         self.0.node_bound()
@@ -59,29 +58,22 @@ impl<G: BothWays> Graph for Reversed<G> {
     }
 
     fn next(&self, c: &mut G::Cursor) -> Option<EdgeRef<G::Ix, G::Weight>> {
-        match self.0.next(c) {
-            Some(edge) => Some(turned(edge)),
-            None => None,
-        }
+        self.0.next(c).map(turned)
     }
 }
 
 impl<G: BothWays> BothWays for Reversed<G> {
     ghost ins = { λ g n. map turn (G.Graph.outs g.0 n) };
 
-    fn tied(&self) {
-        self.0.sound(); // each edge stands in its source's list
-        self.0.tied();
-    }
+    ghost tied = { λ g. turned_tied (G.Graph.sound g.0) (G.BothWays.tied g.0) };
 
     fn incoming(&self, n: G::Ix) -> G::Cursor {
-        self.tied();
         self.0.outgoing(n)
     }
 }
 
 // The nodes of a graph that are in a set, and the edges between them, in the graph's order.
-#[derive(Clone, Copy)]
+#[derive(Clone, Copy, PartialEq, Eq, Debug)]
 pub struct NodeFiltered<G, S> {
     pub graph: G,
     pub set: S,
@@ -104,9 +96,8 @@ impl<G: Graph, S: NodeSet<Ix = G::Ix>> Graph for NodeFiltered<G, S> {
 
     ghost rest = { λ g c. filter (within (S.NodeSet.has g.set)) (G.Graph.rest g.graph c) };
 
-    fn sound(&self) {
-        self.graph.sound(); // and a part of it keeps to the same
-    }
+    // A part of a graph keeps to what the graph keeps to.
+    ghost sound = { λ g. filtered_sound (S.NodeSet.has g.set) (G.Graph.sound g.graph) };
 
     fn node_bound(&self) -> u32 {
         self.graph.node_bound()
@@ -138,12 +129,9 @@ impl<G: Graph, S: NodeSet<Ix = G::Ix>> Graph for NodeFiltered<G, S> {
 impl<G: BothWays, S: NodeSet<Ix = G::Ix>> BothWays for NodeFiltered<G, S> {
     ghost ins = { λ g n. filter (within (S.NodeSet.has g.set)) (G.BothWays.ins g.graph n) };
 
-    fn tied(&self) {
-        self.graph.tied();
-    }
+    ghost tied = { λ g. filtered_tied (S.NodeSet.has g.set) (G.BothWays.tied g.graph) };
 
     fn incoming(&self, n: G::Ix) -> G::Cursor {
-        self.tied();
         self.graph.incoming(n)
     }
 }

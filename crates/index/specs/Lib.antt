@@ -2,3 +2,4 @@ pub mod Directions
 pub mod Records
 pub mod Links
 pub mod Refusals
+pub mod Printed

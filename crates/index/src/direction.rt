@@ -3,7 +3,7 @@ ghost use Rattle.std.specs.Prelude.{◌≡◌};
 ghost use Rattle.index.specs.Directions.{opposite as turned_round};
 
 // Forward: from an edge's source to its target. Reverse: from its target to its source.
-#[derive(Clone, Copy)]
+#[derive(Clone, Copy, PartialEq, Eq, Debug)]
 pub enum DependencyDirection {
     Forward,
     Reverse,

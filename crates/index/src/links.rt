@@ -6,27 +6,23 @@ ghost use Rattle.index.specs.declared.links.Half.TheVariants.{Whole};
 use crate::records::{FeatureEdge, PackageLink, WeakIndex};
 
 // Which declarations of a dependency a link covers: all of them, the required ones or the optional ones.
-#[derive(Clone, Copy)]
+#[derive(Clone, Copy, PartialEq, Eq, Debug)]
 pub enum Half {
-    Whole,
-    Required,
-    Optional,
+    Whole = 0,
+    Required = 1,
+    Optional = 2,
 }
 
-impl Half {
-    // The number of the half, from 0.
-    pub fn number(self) -> u32
-        ensures { result ≡ half_number self }
-    {
-        match self {
-            Half::Whole => 0,
-            Half::Required => 1,
-            Half::Optional => 2,
-        }
+// The number of the half.
+impl From<Half> for u32 {
+    ghost from_gives = { λ half number. number ≡ half_number half };
+
+    fn from(half: Half) -> u32 {
+        half as u32
     }
 }
 
-#[derive(Clone, Copy)]
+#[derive(Clone, Copy, PartialEq, Eq, Debug)]
 pub struct Link {
     pub edge: u32,
     pub half: Half,
@@ -34,7 +30,7 @@ pub struct Link {
 }
 
 // The links of an edge that has any.
-#[derive(Clone, Copy)]
+#[derive(Clone, Copy, PartialEq, Eq, Debug)]
 pub enum EdgeLinks {
     NonWeak(Link),
     Weak {
@@ -78,14 +74,11 @@ pub fn edge_to_links(edge: u32, record: FeatureEdge) -> Option<EdgeLinks>
 fn required_link(edge: u32, required: Option<u8>) -> Option<Link>
     ensures { result ≡ required_of edge required }
 {
-    match required {
-        None => None,
-        Some(mask) => Some(Link {
-            edge,
-            half: Half::Required,
-            mask,
-        }),
-    }
+    required.map(|mask| Link {
+        edge,
+        half: Half::Required,
+        mask,
+    })
 }
 
 // The one link of a package edge.

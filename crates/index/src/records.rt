@@ -4,10 +4,11 @@ ghost use Rattle.index.specs.declared.records.WeakIndex.{WeakIndex};
 ghost use Rattle.index.specs.Records.{read_package_link, read_feature_edge, required_in, form_of, weak_of};
 
 // The place of a weak pair among those that a graph has registered, from 0.
-#[derive(Clone, Copy)]
+#[derive(Clone, Copy, PartialEq, Eq, Debug)]
 pub struct WeakIndex(pub u32);
 
 // A record that four words of a table can hold. Any four words hold some record; `encode` gives four that hold this one.
+// Not `From` and `Into`: the member `held` ties the two, which as two traits would need a law that repeats both.
 pub trait EdgeRecord: Copy {
     ghost held: { List ℕ → Self };
 
@@ -25,14 +26,14 @@ pub trait EdgeRecord: Copy {
 }
 
 // The record of a package edge: the mask of its link. Bit 0 is a normal dependency, 1 a build, 2 a dev dependency.
-#[derive(Clone, Copy)]
+#[derive(Clone, Copy, PartialEq, Eq, Debug)]
 pub struct PackageLink {
     pub mask: u8,
 }
 
 // The record of a feature edge, in one of six forms; the numbers are masks of links. A weak slash, as `foo?/bar`, has
 // a mask for the required declarations of foo, if there are any, one for the optional ones, and a weak index.
-#[derive(Clone, Copy)]
+#[derive(Clone, Copy, PartialEq, Eq, Debug)]
 pub enum FeatureEdge {
     NamedFeature,
     FeatureToBase,
@@ -47,7 +48,7 @@ pub enum FeatureEdge {
 }
 
 impl FeatureEdge {
-    // The number of the form, from 0.
+    // The number of the form, from 0. A method and no `From`, since the number keeps nothing else of the edge.
     pub fn form(self) -> u32
         ensures { result ≡ form_of self }
     {
@@ -68,7 +69,7 @@ impl EdgeRecord for PackageLink {
     ghost weak = { λ _. None };
 
     fn encode(self) -> [u32; 4] {
-        [self.mask as u32, 0, 0, 0]
+        [u32::from(self.mask), 0, 0, 0]
     }
 
     fn decode(words: [u32; 4]) -> PackageLink {
@@ -86,20 +87,13 @@ impl EdgeRecord for PackageLink {
 fn required_word(required: Option<u8>) -> u32
     ensures { required_in result ≡ required }
 {
-    match required {
-        None => 0,
-        Some(mask) => mask as u32 + 1,
-    }
+    required.map_or(0, |mask| u32::from(mask) + 1)
 }
 
 fn required_mask(word: u32) -> Option<u8>
     ensures { result ≡ required_in word }
 {
-    if word == 0 {
-        None
-    } else {
-        Some(((word - 1) % 256) as u8)
-    }
+    word.checked_sub(1).map(|mask| (mask % 256) as u8)
 }
 
 impl EdgeRecord for FeatureEdge {
@@ -113,12 +107,12 @@ impl EdgeRecord for FeatureEdge {
             FeatureEdge::NamedFeature | FeatureEdge::FeatureToBase => [form, 0, 0, 0],
             FeatureEdge::DependenciesSection(mask)
             | FeatureEdge::NamedFeatureDepColon(mask)
-            | FeatureEdge::StrongSlash(mask) => [form, mask as u32, 0, 0],
+            | FeatureEdge::StrongSlash(mask) => [form, u32::from(mask), 0, 0],
             FeatureEdge::WeakSlash {
                 required,
                 optional,
                 index,
-            } => [form, optional as u32, required_word(required), index.0],
+            } => [form, u32::from(optional), required_word(required), index.0],
         }
     }
 

@@ -1,16 +1,30 @@
 // Refusals: the answers of a call that does nothing. Their numbers are fixed, and give the order in which calls check.
-ghost use Rattle.std.specs.Prelude.{◌≡◌};
+ghost use Rattle.std.specs.Prelude.{◌≡◌, Some as SomeText};
 ghost use Rattle.index.specs.Refusals.{told as told_of};
+ghost use Rattle.index.specs.Printed.{layer_text, told_text};
+
+use std::fmt;
 
 // The layer that refuses.
-#[derive(Clone, Copy)]
+#[derive(Clone, Copy, PartialEq, Eq, Debug)]
 pub enum Layer {
     Graph,
     Rack,
 }
 
+impl fmt::Display for Layer {
+    ghost output = { λ layer. SomeText (layer_text layer) };
+
+    fn fmt<W: fmt::Write>(&self, f: &mut fmt::Formatter<W>) -> fmt::Result {
+        f.write_str(match self {
+            Layer::Graph => "graph",
+            Layer::Rack => "rack",
+        })
+    }
+}
+
 // Why a call did nothing. Whatever it was given is then as it was.
-#[derive(Clone, Copy)]
+#[derive(Clone, Copy, PartialEq, Eq, Debug)]
 pub enum Refusal {
     // A draft has more nodes than the limit.
     TooManyNodes,
@@ -35,18 +49,18 @@ pub enum Refusal {
 }
 
 // A refusal as it is told: its number, the layer that refuses and one detail.
-#[derive(Clone, Copy)]
+#[derive(Clone, Copy, PartialEq, Eq, Debug)]
 pub struct Told {
     pub number: u32,
     pub layer: Layer,
     pub detail: usize,
 }
 
-impl Refusal {
-    pub fn told(self) -> Told
-        ensures { result ≡ told_of self }
-    {
-        let (number, layer, detail) = match self {
+impl From<Refusal> for Told {
+    ghost from_gives = { λ refusal told. told ≡ told_of refusal };
+
+    fn from(refusal: Refusal) -> Told {
+        let (number, layer, detail) = match refusal {
             Refusal::TooManyNodes => (1, Layer::Graph, 0),
             Refusal::TableTooShort => (2, Layer::Graph, 0),
             Refusal::NoSuchList => (3, Layer::Rack, 0),
@@ -63,5 +77,16 @@ impl Refusal {
             layer,
             detail,
         }
+    }
+}
+
+impl fmt::Display for Told {
+    ghost output = { λ told. SomeText (told_text told) };
+
+    fn fmt<W: fmt::Write>(&self, f: &mut fmt::Formatter<W>) -> fmt::Result {
+        let number = self.number;
+        let layer = self.layer;
+        let detail = self.detail;
+        write!(f, "{number} {layer} {detail}")
     }
 }

@@ -3,8 +3,10 @@ ghost use Rattle.std.specs.Prelude.{◌≡◌, ℕ};
 ghost use Rattle.std.proofs.Common.{rules};
 
 use crate::records::{EdgeRecord, FeatureEdge, PackageLink};
+use std::marker::PhantomData;
 
 // A node's index. Its meaning is a number, and no two indexes of one type have the same.
+// `new` and `index` have the original's names; `From` both ways would be two impls in place of this one.
 pub trait IndexType: Copy {
     ghost number: { Self → ℕ };
 
@@ -27,54 +29,41 @@ pub trait GraphSpec: Copy {
     type Ix: IndexType;
 }
 
-#[derive(Clone, Copy)]
-pub struct PackageIx(u32);
+// An index of a node in graphs of the kind K. Indexes of two kinds have two types, so that none passes for another.
+#[derive(Clone, Copy, PartialEq, Eq, Debug)]
+pub struct NodeIx<K>(u32, PhantomData<K>);
 
-#[derive(Clone, Copy)]
-pub struct FeatureIx(u32);
+pub type PackageIx = NodeIx<PackageGraphSpec>;
 
-impl IndexType for PackageIx {
+pub type FeatureIx = NodeIx<FeatureGraphSpec>;
+
+impl<K: Copy> IndexType for NodeIx<K> {
     ghost number = { λ x. x.0 };
 
     ghost same = { Prim.search rules };
 
-    fn new(x: u32) -> PackageIx {
-        PackageIx(x)
+    fn new(x: u32) -> NodeIx<K> {
+        NodeIx(x, PhantomData)
     }
 
     fn index(self) -> u32 {
-        let PackageIx(number) = self;
-        number
+        self.0 // the kind is in the type alone
     }
 }
 
-impl IndexType for FeatureIx {
-    ghost number = { λ x. x.0 };
+// What a node of a graph of the kind K stands for. Nodes carry no data here: the index says which one.
+#[derive(Clone, Copy, PartialEq, Eq, Debug)]
+pub struct Node<K>(pub NodeIx<K>);
 
-    ghost same = { Prim.search rules };
+pub type PackageId = Node<PackageGraphSpec>;
 
-    fn new(x: u32) -> FeatureIx {
-        FeatureIx(x)
-    }
+// A feature of a package, or a package's base.
+pub type FeatureNode = Node<FeatureGraphSpec>;
 
-    fn index(self) -> u32 {
-        let FeatureIx(number) = self;
-        number
-    }
-}
-
-// What a node of a package graph stands for. Nodes carry no data here: the index says which one.
-#[derive(Clone, Copy)]
-pub struct PackageId(pub PackageIx);
-
-// What a node of a feature graph stands for: a feature of a package, or a package's base.
-#[derive(Clone, Copy)]
-pub struct FeatureNode(pub FeatureIx);
-
-#[derive(Clone, Copy)]
+#[derive(Clone, Copy, PartialEq, Eq, Debug)]
 pub struct PackageGraphSpec;
 
-#[derive(Clone, Copy)]
+#[derive(Clone, Copy, PartialEq, Eq, Debug)]
 pub struct FeatureGraphSpec;
 
 impl GraphSpec for PackageGraphSpec {

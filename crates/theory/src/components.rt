@@ -2,62 +2,42 @@
 ghost use Rattle.theory.specs.PostOrder.{WalkFinishesWhatItReaches, SweepFinishesInPostOrder, PostOrderSorts, StackFits, RunGoesBySteps};
 ghost use Rattle.theory.specs.Components.{GroupsAreComponents, EdgesRunOnward, GatherFits, StacksFit, GatherGoesBySteps};
 
-pub fn walk_finishes_what_it_reaches() -> u8
+pub fn walk_finishes_what_it_reaches()
     ensures { WalkFinishesWhatItReaches }
-{
-    0
-}
+{}
 
-pub fn sweep_finishes_in_post_order() -> u8
+pub fn sweep_finishes_in_post_order()
     ensures { SweepFinishesInPostOrder }
-{
-    0
-}
+{}
 
-pub fn post_order_sorts() -> u8
+pub fn post_order_sorts()
     ensures { PostOrderSorts }
-{
-    0
-}
+{}
 
-pub fn groups_are_components<W>() -> u8
+pub fn groups_are_components<W>()
     ensures { GroupsAreComponents W }
-{
-    0
-}
+{}
 
-pub fn edges_run_onward<W>() -> u8
+pub fn edges_run_onward<W>()
     ensures { EdgesRunOnward W }
-{
-    0
-}
+{}
 
-pub fn stack_fits() -> u8
+pub fn stack_fits()
     ensures { StackFits }
-{
-    0
-}
+{}
 
-pub fn gather_fits() -> u8
+pub fn gather_fits()
     ensures { GatherFits }
-{
-    0
-}
+{}
 
-pub fn stacks_fit<W>() -> u8
+pub fn stacks_fit<W>()
     ensures { StacksFit W }
-{
-    0
-}
+{}
 
-pub fn run_goes_by_steps() -> u8
+pub fn run_goes_by_steps()
     ensures { RunGoesBySteps }
-{
-    0
-}
+{}
 
-pub fn gather_goes_by_steps() -> u8
+pub fn gather_goes_by_steps()
     ensures { GatherGoesBySteps }
-{
-    0
-}
+{}

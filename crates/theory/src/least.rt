@@ -5,116 +5,78 @@ ghost use Rattle.theory.specs.Walk.{StepIsOne, StepExists, WalkIsLeast, WalkStay
 ghost use Rattle.theory.specs.AllPass.{EveryIsPostOrder};
 ghost use Rattle.theory.specs.Sample.{FromSource, FromMiddle, SampleWalk};
 
-pub fn in_turn_is_fair<E>() -> u8
+pub fn in_turn_is_fair<E>()
     ensures { InTurnIsFair E }
-{
-    0
-}
+{}
 
-pub fn least_is_unique<E>() -> u8
+pub fn least_is_unique<E>()
     ensures { LeastIsUnique E }
-{
-    0
-}
+{}
 
-pub fn least_grows<E>() -> u8
+pub fn least_grows<E>()
     ensures { LeastGrows E }
-{
-    0
-}
+{}
 
-pub fn least_by_bounds<E>() -> u8
+pub fn least_by_bounds<E>()
     ensures { LeastByBounds E }
-{
-    0
-}
+{}
 
-pub fn least_exists<E>() -> u8
+pub fn least_exists<E>()
     ensures { LeastExists E }
-{
-    0
-}
+{}
 
-pub fn least_is_reached<E>() -> u8
+pub fn least_is_reached<E>()
     ensures { LeastIsReached E }
-{
-    0
-}
+{}
 
-pub fn step_is_one<E>() -> u8
+pub fn step_is_one<E>()
     ensures { StepIsOne E }
-{
-    0
-}
+{}
 
-pub fn step_exists<E>() -> u8
+pub fn step_exists<E>()
     ensures { StepExists E }
-{
-    0
-}
+{}
 
-pub fn walk_is_least<E>() -> u8
+pub fn walk_is_least<E>()
     ensures { WalkIsLeast E }
-{
-    0
-}
+{}
 
-pub fn walk_stays_inside<E>() -> u8
+pub fn walk_stays_inside<E>()
     ensures { WalkStaysInside E }
-{
-    0
-}
+{}
 
-pub fn walk_does_each_once<E>() -> u8
+pub fn walk_does_each_once<E>()
     ensures { WalkDoesEachOnce E }
-{
-    0
-}
+{}
 
-pub fn run_walks<E>() -> u8
+pub fn run_walks<E>()
     ensures { RunWalks E }
-{
-    0
-}
+{}
 
-pub fn walk_runs<E>() -> u8
+pub fn walk_runs<E>()
     ensures { WalkRuns E }
-{
-    0
-}
+{}
 
-pub fn run_ends<E>() -> u8
+pub fn run_ends<E>()
     ensures { RunEnds E }
-{
-    0
-}
+{}
 
-pub fn run_fits<E>() -> u8
+pub fn run_fits<E>()
     ensures { RunFits E }
-{
-    0
-}
+{}
 
-pub fn every_is_post_order<E>() -> u8
+pub fn every_is_post_order<E>()
     ensures { EveryIsPostOrder E }
-{
-    0
-}
+{}
 
-pub fn sample_from_source() -> u8
+pub fn sample_from_source()
     ensures { FromSource }
-{
-    0
-}
+{}
 
-pub fn sample_from_middle() -> u8
+pub fn sample_from_middle()
     ensures { FromMiddle }
-{
-    0
-}
+{}
 
-pub fn sample_walk() -> u8
+pub fn sample_walk()
     ensures { SampleWalk }
-{
-    0
-}
+{}

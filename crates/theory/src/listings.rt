@@ -2,57 +2,39 @@
 ghost use Rattle.theory.specs.Listings.{RootsAreEntries, RootsAreOne, OrderRunsOnward, LinksShowWhatRootsReach, RootsReachAll, LinksShowAll, LinksFit, ShowGoesBySteps};
 ghost use Rattle.theory.specs.Example.{Example};
 
-pub fn roots_are_entries<W>() -> u8
+pub fn roots_are_entries<W>()
     ensures { RootsAreEntries W }
-{
-    0
-}
+{}
 
-pub fn roots_are_one<W>() -> u8
+pub fn roots_are_one<W>()
     ensures { RootsAreOne W }
-{
-    0
-}
+{}
 
-pub fn order_runs_onward<W>() -> u8
+pub fn order_runs_onward<W>()
     ensures { OrderRunsOnward W }
-{
-    0
-}
+{}
 
-pub fn links_show_what_roots_reach<W>() -> u8
+pub fn links_show_what_roots_reach<W>()
     ensures { LinksShowWhatRootsReach W }
-{
-    0
-}
+{}
 
-pub fn roots_reach_all<W>() -> u8
+pub fn roots_reach_all<W>()
     ensures { RootsReachAll W }
-{
-    0
-}
+{}
 
-pub fn links_show_all<W>() -> u8
+pub fn links_show_all<W>()
     ensures { LinksShowAll W }
-{
-    0
-}
+{}
 
-pub fn links_fit<W>() -> u8
+pub fn links_fit<W>()
     ensures { LinksFit W }
-{
-    0
-}
+{}
 
-pub fn show_goes_by_steps<X>() -> u8
+pub fn show_goes_by_steps<X>()
     ensures { ShowGoesBySteps X }
-{
-    0
-}
+{}
 
 // A graph that meets what the laws ask for, with its listings.
-pub fn example() -> u8
+pub fn example()
     ensures { Example }
-{
-    0
-}
+{}

@@ -4,7 +4,7 @@ use Rattle.theory.specs.Edges.{leaves, enters, turn, within}
 use Rattle.index.specs.declared.records.FeatureEdge.{FeatureEdge}
 use Rattle.index.specs.declared.records.FeatureEdge.TheVariants.{NamedFeature, DependenciesSection, WeakSlash}
 use Rattle.index.specs.Records.{read_feature_edge}
-use Rattle.draft.specs.Table.{laid}
+use Rattle.tables.specs.Table.{laid}
 use Rattle.draft.specs.Drafting.{state_of}
 use Rattle.clients.specs.Firsts.{first_two, others}
 use Rattle.clients.proofs.Drawing.{begun, paired, adds, edge}

@@ -1,7 +1,7 @@
 -- The table keeps its chains, and its edges are those before with the new one first.
 use Rattle.std.proofs.Common.{◌≡◌, false, ◌∷◌, length, sym, refl, ap, ◌∙◌, subst, arith}
-use Rattle.draft.specs.Table.{laid, Chains}
-use Rattle.draft.proofs.Laying.{whole, laid_chains, laid_edges}
+use Rattle.tables.specs.Table.{laid, Chains}
+use Rattle.tables.proofs.Laying.{whole, laid_chains, laid_edges}
 use Rattle.draft.proofs.Deciding.{edge_fits, taken}
 use Rattle.draft.specs.Drafting.{state_of, unregistered}
 use Rattle.weak.specs.Registered.{pairs}

@@ -1,6 +1,6 @@
 -- A table without nodes keeps the invariant.
 use Rattle.std.proofs.Common.{arith}
-use Rattle.draft.proofs.Laying.{clear_chains}
+use Rattle.tables.proofs.Laying.{clear_chains}
 use Rattle.draft.proofs.draft.Draft.new.Goals as goal
 
 pub invariant_of-result : goal.invariant_of-result

@@ -1,7 +1,7 @@
 -- A table whose heads are cleared keeps the invariant.
 use Rattle.std.proofs.Common.{sym, subst, arith}
-use Rattle.draft.specs.Table.{Chains}
-use Rattle.draft.proofs.Laying.{clear_chains}
+use Rattle.tables.specs.Table.{Chains}
+use Rattle.tables.proofs.Laying.{clear_chains}
 use Rattle.draft.proofs.draft.Draft.set_up.Goals as goal
 
 pub invariant_of-self : goal.invariant_of-self

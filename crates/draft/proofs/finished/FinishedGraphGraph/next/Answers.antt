@@ -1,9 +1,9 @@
 -- A link gives its edge, and the edge's own link the rest of the list.
 use Rattle.std.proofs.Common.{◌≡◌, ◌-◌, ◌<◌, ◌≤◌, ap, ◌∙◌, arith}
-use Rattle.draft.specs.Table.{edge_at}
+use Rattle.tables.specs.Table.{edge_at}
 use Rattle.draft.specs.declared.finished.EdgeCursor.{EdgeCursor}
-use Rattle.draft.proofs.Laying.{whole}
-use Rattle.draft.proofs.Reading.{next_forward, next_backward, step_true, step_false}
+use Rattle.tables.proofs.Laying.{whole}
+use Rattle.tables.proofs.Reading.{next_forward, next_backward, step_true, step_false}
 use Rattle.draft.proofs.finished.FinishedGraphGraph.next.Goals.{then-c, else-c}
 use Rattle.draft.proofs.finished.FinishedGraphGraph.next.Goals as goal
 

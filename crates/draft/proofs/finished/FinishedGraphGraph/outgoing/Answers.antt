@@ -1,9 +1,9 @@
 -- The head of a node's first chain stands for its outgoing list; an index that is no node has none.
 use Rattle.std.proofs.Common.{filter, ap, ◌∙◌, arith}
 use Rattle.theory.specs.Edges.{leaves}
-use Rattle.draft.specs.Table.{laid}
-use Rattle.draft.proofs.Laying.{whole}
-use Rattle.draft.proofs.Reading.{out_head, out_none}
+use Rattle.tables.specs.Table.{laid}
+use Rattle.tables.proofs.Laying.{whole}
+use Rattle.tables.proofs.Reading.{out_head, out_none}
 use Rattle.draft.proofs.finished.FinishedGraphGraph.outgoing.Goals as goal
 
 pub returns-then-n-self : goal.returns-then-n-self

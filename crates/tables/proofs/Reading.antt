@@ -7,7 +7,7 @@ use Rattle.theory.specs.Edges.{Edge, In, leaves, enters}
 use Rattle.theory.specs.Graphs.{Sound, Tied, Steps}
 use Rattle.theory.specs.Chains.{from}
 use Rattle.theory.proofs.Chaining.{from_last, in_keyed, keyed_in, once_keyed, link_step}
-use Rattle.draft.specs.Table.{target_at, edge_at, laid, Chains}
+use Rattle.tables.specs.Table.{target_at, edge_at, laid, Chains}
 
 abbrev pub source_of : {W : Type 0} → Edge W → ℕ
 source_of e = e.source

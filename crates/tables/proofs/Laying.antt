@@ -7,7 +7,7 @@ use std.HLevel.{Π_prop}
 use Rattle.std.proofs.lemmas.Bool.{cases_eq}
 use Rattle.theory.specs.Chains.{Last}
 use Rattle.theory.proofs.Chaining.{last_prop, last_none, head_other, head_new, link_old, link_new, newest_more}
-use Rattle.draft.specs.Table.{source_at, target_at, record_at, edge_at, laid, Chains, Chains-prop, Laid}
+use Rattle.tables.specs.Table.{source_at, target_at, record_at, edge_at, laid, Chains, Chains-prop, Laid}
 
 pub whole : {ws : List ℕ} {nodes edges : ℕ} → ∥ Chains ws nodes edges ∥₁ → Chains ws nodes edges
 whole {ws} {nodes} {edges} h = ∥∥₁_elim h prop (λ x. x)
