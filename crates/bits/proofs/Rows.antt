@@ -78,8 +78,8 @@ module _ (ws : List ℕ) (i w m n : ℕ) (l : i < length ws) (fits : m < 2 ^ 64)
 
   pub stored_has : (k : ℕ) → has (set ws i (bit_and w m)) k ≡ cond (eqb (k / 64) i) (bit w (k % 64) && ltb k n) (has ws k)
   stored_has k = elim (cases_eq (k / 64) i) [
-    | inl e ↦ has_set_here ws i (bit_and w m) k l e ∙ cut k e ∙ sym (ap (λ b. cond b (bit w (k % 64) && ltb k n) (has ws k)) (eq-eqb (k / 64) i e))
-    | inr d ↦ has_set_there ws i (bit_and w m) k d ∙ sym (ap (λ b. cond b (bit w (k % 64) && ltb k n) (has ws k)) (ne_eqb (k / 64) i d))
+    | inl e ↦ rw (eq-eqb (k / 64) i e) (has_set_here ws i (bit_and w m) k l e ∙ cut k e)
+    | inr d ↦ rw (ne_eqb (k / 64) i d) (has_set_there ws i (bit_and w m) k d)
   ]
 
   pub stored_below : Below ws n → Below (set ws i (bit_and w m)) n
@@ -140,23 +140,20 @@ up_to p q i k = cond (ltb (k / 64) i) (q k) (p k)
 -- the word i is then that of v
 pub up_to_more : (p q v : ℕ → Bool) (i k : ℕ) → (k / 64 ≡ i → v k ≡ q k) → cond (eqb (k / 64) i) (v k) (up_to p q i k) ≡ up_to p q (i + 1) k
 up_to_more p q v i k same = elim (cases_eq (k / 64) i) [
-  | inl e ↦
-      ap (λ b. cond b (v k) (up_to p q i k)) (eq-eqb (k / 64) i e) ∙ same e
-      ∙ sym (ap (λ b. cond b (q k) (p k)) (lt-ltb (k / 64) (i + 1) (omega arith)))
-  | inr d ↦
-      ap (λ b. cond b (v k) (up_to p q i k)) (ne_eqb (k / 64) i d) ∙ ap (λ b. cond b (q k) (p k)) (elim (cases_lt (k / 64) i) [
-        | inl l ↦ lt-ltb (k / 64) i l ∙ sym (lt-ltb (k / 64) (i + 1) (omega arith))
-        | inr l ↦ le-ltb (k / 64) i l ∙ sym (le-ltb (k / 64) (i + 1) (omega (arith, d)))
-      ])
+  | inl e ↦ rw (eq-eqb (k / 64) i e, lt-ltb (k / 64) (i + 1) (omega arith)) (same e)
+  | inr d ↦ rw (ne_eqb (k / 64) i d) (elim (cases_lt (k / 64) i) [
+    | inl l ↦ rw (lt-ltb (k / 64) i l, lt-ltb (k / 64) (i + 1) (omega arith))
+    | inr l ↦ rw (le-ltb (k / 64) i l, le-ltb (k / 64) (i + 1) (omega (arith, d)))
+  ])
 ]
 
 -- the words are all done
 pub up_to_all : (p q : ℕ → Bool) (i n k : ℕ) → (n + 63) / 64 ≤ i → ((j : ℕ) → n ≤ j → p j ≡ false) → ((j : ℕ) → n ≤ j → q j ≡ false) → up_to p q i k ≡ q k
 up_to_all p q i n k l none none' = elim (cases_lt (k / 64) i) [
-  | inl b ↦ ap (λ c. cond c (q k) (p k)) (lt-ltb (k / 64) i b)
-  | inr b ↦ ap (λ c. cond c (q k) (p k)) (le-ltb (k / 64) i b) ∙ none k (omega arith) ∙ sym (none' k (omega arith))
+  | inl b ↦ rw (lt-ltb (k / 64) i b)
+  | inr b ↦ rw (le-ltb (k / 64) i b) (none k (omega arith) ∙ sym (none' k (omega arith)))
 ]
 
 -- the words from i on are still as they were
 pub up_to_here : (p q : ℕ → Bool) (i k : ℕ) → k / 64 ≡ i → up_to p q i k ≡ p k
-up_to_here p q i k e = ap (λ b. cond b (q k) (p k)) (le-ltb (k / 64) i (omega arith))
+up_to_here p q i k e = rw (le-ltb (k / 64) i (omega arith))
