@@ -1,13 +1,14 @@
 -- How many numbers below a count pass a test, and their list, ascending. Assumes nothing.
-use Rattle.std.proofs.Common.{◌≡◌, ℕ, zero, suc, ◌+◌, ◌/◌, ◌%◌, ◌^◌, ◌<◌, ◌≤◌, Bool, true, false, cond, not, ◌&&◌, ◌||◌, eqb, ◌⊎◌, [], ◌∷◌, ◌++◌, length, sym, refl, ap, ◌∙◌, ap₂, inl, inr, add-zero, add_assoc, add-suc, pow-suc, zero-add, one-add, arith, length-append}
+use Rattle.std.proofs.Common.{◌≡◌, ℕ, zero, suc, ◌+◌, ◌-◌, ◌/◌, ◌%◌, ◌^◌, ◌<◌, ◌≤◌, Bool, true, false, cond, not, ◌&&◌, ◌||◌, eqb, ◌⊎◌, [], ◌∷◌, ◌++◌, length, sym, refl, ap, ◌∙◌, ap₂, inl, inr, add-zero, add-suc, pow-suc, zero-add, one-add, arith, length-append}
 use mathlib.Core.Bool.{and-true, or-false}
 use native.Mathlib.Nat.{pow-zero}
 use lib.Count.{ones, ones_step}
-use Rattle.std.proofs.lemmas.Bool.{cases_eq, cases_lt, eq-eqb, ne_eqb, or_right}
+use Rattle.std.proofs.lemmas.Bool.{both_ways, cases_eq, cases_lt, eq-eqb, ne_eqb, or_right}
 use Rattle.std.proofs.lemmas.List.Elements.{filter-append}
+use Rattle.std.proofs.lemmas.List.Sums.{count_by-le-length, length-filter}
 use Rattle.theory.specs.PostOrder.{below}
-use Rattle.theory.proofs.Kept.{in_kept, kept_in}
-use Rattle.theory.proofs.Sweeping.{in_below}
+use Rattle.theory.proofs.Kept.{in_kept, kept_in, kept_none, kept_same}
+use Rattle.theory.proofs.Sweeping.{below_in, in_below}
 use Rattle.theory.proofs.Rooting.{ascending_below, ascending_kept}
 use Rattle.bits.specs.Bits.{bit, listing, how_many, Lists}
 use Rattle.bits.proofs.Digits.{bit_first, bit_suc}
@@ -29,41 +30,52 @@ count_zero p = refl
 pub count_suc : (p : ℕ → Bool) (n : ℕ) → how_many p (suc n) ≡ how_many p n + cond (p n) 1 0
 count_suc p n = ap length (listing_suc p n) ∙ length-append (listing p n) (cond (p n) (n ∷ []) []) ∙ ap (λ x. how_many p n + x) (one (p n) n)
 
+count_yes : (p : ℕ → Bool) (n : ℕ) → p n ≡ true → how_many p (suc n) ≡ how_many p n + 1
+count_yes p n t = count_suc p n ∙ ap (λ b. how_many p n + cond b 1 0) t
+
+count_no : (p : ℕ → Bool) (n : ℕ) → p n ≡ false → how_many p (suc n) ≡ how_many p n
+count_no p n f = count_suc p n ∙ ap (λ b. how_many p n + cond b 1 0) f ∙ add-zero (how_many p n)
+
 -- ---- tests that agree
 
 pub listing_ext : (p q : ℕ → Bool) (n : ℕ) → ((k : ℕ) → k < n → p k ≡ q k) → listing p n ≡ listing q n
-unfolding below
-listing_ext p q zero h = refl
-listing_ext p q (suc n) h =
-    listing_suc p n ∙ ap₂ (λ l b. l ++ cond b (n ∷ []) []) (listing_ext p q n (λ k l. h k (omega arith))) (h n (omega arith)) ∙ sym (listing_suc q n)
+listing_ext p q n h = kept_same p q (below n) (λ k i. h k (below_in n k i))
+
+pub listing_none : (p : ℕ → Bool) (n : ℕ) → ((k : ℕ) → k < n → p k ≡ false) → listing p n ≡ []
+listing_none p n h = kept_none p (below n) (λ k i. h k (below_in n k i))
 
 pub count_ext : (p q : ℕ → Bool) (n : ℕ) → ((k : ℕ) → k < n → p k ≡ q k) → how_many p n ≡ how_many q n
 count_ext p q n h = ap length (listing_ext p q n h)
 
 pub count_add : (p : ℕ → Bool) (m n : ℕ) → how_many p (m + n) ≡ how_many p m + how_many (λ k. p (m + k)) n
-count_add p m zero = ap (how_many p) (add-zero m) ∙ sym (ap (λ x. how_many p m + x) (count_zero (λ k. p (m + k))) ∙ add-zero (how_many p m))
-count_add p m (suc n) =
-    ap (how_many p) (add-suc m n) ∙ count_suc p (m + n) ∙ ap (λ x. x + cond (p (m + n)) 1 0) (count_add p m n)
-    ∙ add_assoc (how_many p m) (how_many (λ k. p (m + k)) n) (cond (p (m + n)) 1 0)
-    ∙ ap (λ x. how_many p m + x) (sym (count_suc (λ k. p (m + k)) n))
+count_add p m zero = omega (arith, ap (how_many p) (add-zero m), count_zero (λ k. p (m + k)))
+count_add p m (suc n) = omega (arith, ap (how_many p) (add-suc m n), count_suc p (m + n), count_add p m n, count_suc (λ k. p (m + k)) n)
 
 pub count_le : (p : ℕ → Bool) (n : ℕ) → how_many p n ≤ n
-count_le p zero = omega (arith, count_zero p)
-count_le p (suc n) = let ih = count_le p n in let s = count_suc p n in let b = most_one (p n) in omega arith
+unfolding below
+count_le p n = omega (arith, length-filter p (below n), count_by-le-length p (below n), all n)
   where
-    most_one : (b : Bool) → cond b 1 0 ≤ 1
-    most_one true = omega arith
-    most_one false = omega arith
+    all : (n : ℕ) → length (below n) ≡ n
+    all zero = refl
+    all (suc n) = omega (arith, length-append (below n) (n ∷ []), all n)
 
 pub count_none : (p : ℕ → Bool) (n : ℕ) → ((k : ℕ) → p k ≡ false) → how_many p n ≡ 0
-count_none p zero h = count_zero p
-count_none p (suc n) h = count_suc p n ∙ ap₂ (λ x y. x + cond y 1 0) (count_none p n h) (h n)
+count_none p n h = ap length (listing_none p n (λ k _. h k))
 
 -- nothing passes from m on
 pub count_stop : (p : ℕ → Bool) (m d : ℕ) → ((k : ℕ) → m ≤ k → p k ≡ false) → how_many p (m + d) ≡ how_many p m
 count_stop p m zero h = ap (how_many p) (add-zero m)
 count_stop p m (suc d) h =
-    ap (how_many p) (add-suc m d) ∙ count_suc p (m + d) ∙ ap₂ (λ x y. x + cond y 1 0) (count_stop p m d h) (h (m + d) (omega arith)) ∙ add-zero (how_many p m)
+    omega (arith, ap (how_many p) (add-suc m d), count_no p (m + d) (h (m + d) (omega arith)), count_stop p m d h)
+
+pub count_past : (p : ℕ → Bool) (n m : ℕ) → ((k : ℕ) → n ≤ k → p k ≡ false) → n ≤ m → how_many p m ≡ how_many p n
+count_past p n m stop l = let e : n + (m - n) ≡ m = omega arith in ap (how_many p) (sym e) ∙ count_stop p n (m - n) stop
+
+pub count_most : (p : ℕ → Bool) (n m : ℕ) → ((k : ℕ) → n ≤ k → p k ≡ false) → how_many p m ≤ n
+count_most p n m stop = elim (cases_lt m n) [
+  | inl l ↦ omega (arith, count_le p m)
+  | inr l ↦ omega (arith, count_past p n m stop l, count_le p n)
+]
 
 -- tests that agree, and pass nothing from two counts on
 pub count_same : (p q : ℕ → Bool) (m n : ℕ) → ((k : ℕ) → p k ≡ q k) → ((k : ℕ) → m ≤ k → p k ≡ false) → ((k : ℕ) → n ≤ k → q k ≡ false) → how_many p m ≡ how_many q n
@@ -75,16 +87,14 @@ count_same p q m n same stop stop' =
 
 pub count_one : (p q : ℕ → Bool) (i n : ℕ) → i < n → p i ≡ false → q i ≡ true → ((k : ℕ) → (k ≡ i → ⊥) → q k ≡ p k) → how_many q n ≡ how_many p n + 1
 count_one p q i zero l f t h = absurd (omega arith)
-count_one p q i (suc n) l f t h = count_suc q n ∙ go (λ b. count_one p q i n b f t h) (cases_eq i n) ∙ ap (λ x. x + 1) (sym (count_suc p n))
-  where
-    go : (i < n → how_many q n ≡ how_many p n + 1) → (i ≡ n) ⊎ (i ≡ n → ⊥) → how_many q n + cond (q n) 1 0 ≡ how_many p n + cond (p n) 1 0 + 1
-    go rest (inl e) =
-        let same : how_many q n ≡ how_many p n = count_ext q p n (λ k b. h k (λ x. omega arith)) in
-        ap₂ (λ x y. x + cond y 1 0) same (ap q (sym e) ∙ t)
-        ∙ ap (λ x. x + 1) (sym (add-zero (how_many p n))) ∙ ap (λ y. how_many p n + cond y 1 0 + 1) (sym (ap p (sym e) ∙ f))
-    go rest (inr d) =
-        let ih : how_many q n ≡ how_many p n + 1 = rest (omega arith) in
-        ap₂ (λ x y. x + cond y 1 0) ih (h n (λ x. d (sym x))) ∙ omega arith
+count_one p q i (suc n) l f t h = elim (cases_eq i n) [
+  | inl e ↦
+      let same : how_many q n ≡ how_many p n = count_ext q p n (λ k b. h k (λ x. omega arith)) in
+      omega (arith, count_yes q n (ap q (sym e) ∙ t), count_no p n (ap p (sym e) ∙ f))
+  | inr d ↦
+      let less : how_many q n ≡ how_many p n + 1 = count_one p q i n (omega arith) f t h in
+      omega (arith, count_suc q n, count_suc p n, ap {B = ℕ} (λ b. cond b 1 0) (h n (λ x. d (sym x))))
+]
 
 -- where a number below n does not pass, fewer than n do
 pub count_room : (p : ℕ → Bool) (i n : ℕ) → i < n → p i ≡ false → how_many p n < n
@@ -118,11 +128,6 @@ ones_count (suc k) w h =
     ∙ sym (ap (how_many (bit w)) (sym (one-add k)) ∙ count_add (bit w) 1 k)
 
 -- ---- the list, from its front
-
-pub listing_none : (p : ℕ → Bool) (n : ℕ) → ((k : ℕ) → k < n → p k ≡ false) → listing p n ≡ []
-unfolding below
-listing_none p zero h = refl
-listing_none p (suc n) h = listing_suc p n ∙ ap₂ (λ l b. l ++ cond b (n ∷ []) []) (listing_none p n (λ k l. h k (omega arith))) (h n (omega arith))
 
 -- m is the least number that passes p; q is p without it
 module _ (p q : ℕ → Bool) (m : ℕ) (least : (k : ℕ) → k < m → p k ≡ false) (here : p m ≡ true) (without : (k : ℕ) → q k ≡ (p k && not (eqb k m))) where
@@ -158,7 +163,4 @@ listing_lists p n stop = record {
 }
   where
     small : (k : ℕ) → p k ≡ true → k < n
-    small k t = elim (cases_lt k n) [
-      | inl l ↦ l
-      | inr l ↦ let f : p k ≡ false = stop k l in let z : ◌≡◌ {A = ℕ} 0 1 = cc in absurd (omega arith)
-    ]
+    small k t = elim (cases_lt k n) [ inl l ↦ l | inr l ↦ absurd (both_ways (p k) (stop k l) t) ]

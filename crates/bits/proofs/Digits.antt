@@ -1,210 +1,116 @@
--- The binary digits of words: of `&`, `|` and `^`, of a lone bit and of the lowest bits; the lowest digit that is set; words of
--- the same digits are equal. Assumes nothing.
-use Rattle.std.proofs.Common.{◌≡◌, ℕ, zero, suc, ◌+◌, ◌-◌, ◌/◌, ◌%◌, ◌^◌, ◌<◌, ◌≤◌, Bool, true, false, not, ◌&&◌, ◌||◌, eqb, ltb, ◌⊎◌, sym, refl, ap, ◌∙◌, inl, inr, one-mul, pow-suc, div-one, one-add, arith, pow_pos, pow_mono, pow-add, shr-shr}
-use native.Mathlib.Nat.{zero-div, div-eq_of_lt, pow-zero, mul-mod_left}
-use lib.Bits.{bit_and, bit_or, bit_xor, or_shr, and_shr, xor_shr, or_mod, and_mod, xor_mod, and_mask}
-use lib.Pow.{shl-shr, pow-lt}
+-- The binary digits of words, by std's bit_at: of `&`, `|` and `^`, of a lone bit and of the lowest bits; the lowest digit that is
+-- set; words of the same digits are equal. Assumes nothing.
+use Rattle.std.proofs.Common.{◌≡◌, ℕ, zero, suc, ◌+◌, ◌-◌, ◌/◌, ◌%◌, ◌^◌, ◌<◌, max, min, Bool, true, false, not, ◌&&◌, ◌||◌, eqb, ltb, sym, refl, ap, ◌∙◌, inl, inr, pow-suc, arith}
+use native.Mathlib.Nat.{pow-zero}
+use lib.Bits.{bit_and, bit_or, bit_xor}
 use lib.Count.{count_trailing_zeros, under}
-use Rattle.std.proofs.lemmas.Bool.{eq-eqb, ne_eqb, cases_order, cases_lt, lt-ltb, le-ltb}
+use Rattle.std.specs.Int.{bit_at, w64}
+use Rattle.std.proofs.lemmas.Bool.{true≢false, eq-eqb, eqb-true, ne_eqb, cases_eq, cases_lt, lt-ltb, le-ltb}
+use Rattle.std.proofs.lemmas.Nat.Bits.{bit_at-lt, bit_at-pow_other, bit_at-pow_same, bit_at-suc, bit_at-zero, bit_at_and, bit_at_lowest, bit_at_not, bit_at_ones, bit_at_ones_above, bit_at_or, bit_at_xor, same_from_bits_below, shr_and_one}
 use Rattle.bits.specs.Bits.{bit}
 
--- ---- the digits 0 and 1
+-- ---- a digit is 0 or 1
 
-or_digit : (x y : ℕ) → x < 2 → y < 2 → eqb (bit_or x y) 1 ≡ (eqb x 1 || eqb y 1)
-or_digit zero zero h k = refl
-or_digit zero (suc zero) h k = refl
-or_digit (suc zero) zero h k = refl
-or_digit (suc zero) (suc zero) h k = refl
-or_digit zero (suc (suc y)) h k = absurd (omega arith)
-or_digit (suc zero) (suc (suc y)) h k = absurd (omega arith)
-or_digit (suc (suc x)) y h k = absurd (omega arith)
+digit : (P : ℕ → Type 0) → P 0 → P 1 → (x : ℕ) → x < 2 → P x
+digit P a b zero h = a
+digit P a b (suc zero) h = b
+digit P a b (suc (suc x)) h = absurd (omega arith)
 
-and_digit : (x y : ℕ) → x < 2 → y < 2 → eqb (bit_and x y) 1 ≡ (eqb x 1 && eqb y 1)
-and_digit zero zero h k = refl
-and_digit zero (suc zero) h k = refl
-and_digit (suc zero) zero h k = refl
-and_digit (suc zero) (suc zero) h k = refl
-and_digit zero (suc (suc y)) h k = absurd (omega arith)
-and_digit (suc zero) (suc (suc y)) h k = absurd (omega arith)
-and_digit (suc (suc x)) y h k = absurd (omega arith)
+digits : (P : ℕ → ℕ → Type 0) → P 0 0 → P 0 1 → P 1 0 → P 1 1 → (a b k : ℕ) → P (bit_at a k) (bit_at b k)
+digits P p q r s a b k =
+    digit (λ x. P x (bit_at b k)) (digit (P 0) p q (bit_at b k) (bit_at-lt b k)) (digit (P 1) r s (bit_at b k) (bit_at-lt b k)) (bit_at a k) (bit_at-lt a k)
 
-xor_digit : (x y : ℕ) → x < 2 → y < 2 → eqb (bit_xor x y) 1 ≡ ((eqb x 1 && not (eqb y 1)) || (not (eqb x 1) && eqb y 1))
-xor_digit zero zero h k = refl
-xor_digit zero (suc zero) h k = refl
-xor_digit (suc zero) zero h k = refl
-xor_digit (suc zero) (suc zero) h k = refl
-xor_digit zero (suc (suc y)) h k = absurd (omega arith)
-xor_digit (suc zero) (suc (suc y)) h k = absurd (omega arith)
-xor_digit (suc (suc x)) y h k = absurd (omega arith)
-
-below_two : (x : ℕ) → x % 2 < 2
-below_two x = omega arith
+bit_is : (w k d : ℕ) → bit_at w k ≡ d → bit w k ≡ eqb d 1
+unfolding bit
+bit_is w k d e = ap (λ x. eqb x 1) e
 
 -- ---- the digits of two words put together
 
 pub bit-bit_or : (a b k : ℕ) → bit (bit_or a b) k ≡ (bit a k || bit b k)
 unfolding bit
-bit-bit_or a b k =
-    ap (λ x. eqb (x % 2) 1) (or_shr a b k) ∙ ap (λ x. eqb x 1) (or_mod (a / 2 ^ k) (b / 2 ^ k) 1)
-    ∙ or_digit (a / 2 ^ k % 2) (b / 2 ^ k % 2) (below_two (a / 2 ^ k)) (below_two (b / 2 ^ k))
+bit-bit_or a b k = bit_is (bit_or a b) k _ (bit_at_or a b k) ∙ digits (λ x y. eqb (max x y) 1 ≡ (eqb x 1 || eqb y 1)) refl refl refl refl a b k
 
 pub bit-bit_and : (a b k : ℕ) → bit (bit_and a b) k ≡ (bit a k && bit b k)
 unfolding bit
-bit-bit_and a b k =
-    ap (λ x. eqb (x % 2) 1) (and_shr a b k) ∙ ap (λ x. eqb x 1) (and_mod (a / 2 ^ k) (b / 2 ^ k) 1)
-    ∙ and_digit (a / 2 ^ k % 2) (b / 2 ^ k % 2) (below_two (a / 2 ^ k)) (below_two (b / 2 ^ k))
+bit-bit_and a b k = bit_is (bit_and a b) k _ (bit_at_and a b k) ∙ digits (λ x y. eqb (min x y) 1 ≡ (eqb x 1 && eqb y 1)) refl refl refl refl a b k
 
 pub bit-bit_xor : (a b k : ℕ) → bit (bit_xor a b) k ≡ ((bit a k && not (bit b k)) || (not (bit a k) && bit b k))
 unfolding bit
 bit-bit_xor a b k =
-    ap (λ x. eqb (x % 2) 1) (xor_shr a b k) ∙ ap (λ x. eqb x 1) (xor_mod (a / 2 ^ k) (b / 2 ^ k) 1)
-    ∙ xor_digit (a / 2 ^ k % 2) (b / 2 ^ k % 2) (below_two (a / 2 ^ k)) (below_two (b / 2 ^ k))
+    bit_is (bit_xor a b) k _ (bit_at_xor a b k)
+    ∙ digits (λ x y. eqb ((x + y) % 2) 1 ≡ ((eqb x 1 && not (eqb y 1)) || (not (eqb x 1) && eqb y 1))) refl refl refl refl a b k
 
-less_bool : (x y : Bool) → ((x && not (x && y)) || (not x && (x && y))) ≡ (x && not y)
-less_bool true true = refl
-less_bool true false = refl
-less_bool false true = refl
-less_bool false false = refl
-
--- the digits of a that b lacks
-pub bit_less : (a b k : ℕ) → bit (bit_xor a (bit_and a b)) k ≡ (bit a k && not (bit b k))
-bit_less a b k =
-    bit-bit_xor a (bit_and a b) k ∙ ap (λ t. (bit a k && not t) || (not (bit a k) && t)) (bit-bit_and a b k) ∙ less_bool (bit a k) (bit b k)
+-- the digits that a word lacks
+pub bit_flip : (w k : ℕ) → w < 2 ^ 64 → k < 64 → bit (2 ^ 64 - 1 - w) k ≡ not (bit w k)
+unfolding bit
+bit_flip w k h l = bit_is (2 ^ 64 - 1 - w) k _ (bit_at_not w64 w k h l) ∙ digit (λ x. eqb (1 - x) 1 ≡ not (eqb x 1)) refl refl (bit_at w k) (bit_at-lt w k)
 
 -- ---- single words
 
 pub bit_zero : (k : ℕ) → bit 0 k ≡ false
-unfolding bit
-bit_zero k = ap (λ x. eqb (x % 2) 1) (zero-div (2 ^ k))
+bit_zero k = bit_is 0 k 0 (bit_at-zero k)
 
 -- what `w >> k & 1 == 1` says
 pub test_is : (w k : ℕ) → eqb (bit_and (w / 2 ^ k) 1) 1 ≡ bit w k
-unfolding bit
-test_is w k = ap (λ x. eqb x 1) (and_mask (w / 2 ^ k) 1)
-
-even_power : (d j : ℕ) → 2 ^ (suc d + j) / 2 ^ j % 2 ≡ 0
-even_power d j =
-    ap (λ x. x / 2 ^ j % 2) (pow-add 2 (suc d) j) ∙ ap (λ x. x % 2) (shl-shr (2 ^ suc d) j)
-    ∙ ap (λ x. x % 2) (pow-suc 2 d) ∙ mul-mod_left (2 ^ d) 2
+test_is w k = sym (bit_is w k _ (sym (shr_and_one w k)))
 
 pub bit_lone : (k j : ℕ) → bit (2 ^ k) j ≡ eqb j k
-unfolding bit
-bit_lone k j = go (cases_order j k)
-  where
-    go : (j ≡ k) ⊎ ((j < k) ⊎ (k < j)) → eqb (2 ^ k / 2 ^ j % 2) 1 ≡ eqb j k
-    go (inl e) =
-        ap (λ x. eqb (2 ^ k / 2 ^ x % 2) 1) e ∙ ap (λ x. eqb (x / 2 ^ k % 2) 1) (sym (one-mul (2 ^ k)))
-        ∙ ap (λ x. eqb (x % 2) 1) (shl-shr 1 k) ∙ sym (eq-eqb j k e)
-    go (inr (inl l)) =
-        let e : suc (k - suc j) + j ≡ k = omega arith in
-        ap (λ x. eqb (2 ^ x / 2 ^ j % 2) 1) (sym e) ∙ ap (λ x. eqb x 1) (even_power (k - suc j) j) ∙ sym (ne_eqb j k (λ q. omega arith))
-    go (inr (inr l)) = ap (λ x. eqb (x % 2) 1) (div-eq_of_lt (pow-lt l)) ∙ sym (ne_eqb j k (λ q. omega arith))
+bit_lone k j = elim (cases_eq j k) [
+  | inl e ↦ ap (bit (2 ^ k)) e ∙ bit_is (2 ^ k) k 1 (bit_at-pow_same k) ∙ sym (eq-eqb j k e)
+  | inr d ↦ bit_is (2 ^ k) j 0 (bit_at-pow_other k j d) ∙ sym (ne_eqb j k d)
+]
 
-pub bit_high : (w k j : ℕ) → w < 2 ^ k → k ≤ j → bit w j ≡ false
-unfolding bit
-bit_high w k j h l =
-    let up : 2 ^ k ≤ 2 ^ j = pow_mono l in
-    let small : w < 2 ^ j = omega arith in
-    ap (λ x. eqb (x % 2) 1) (div-eq_of_lt small)
+-- the word of the lowest k bits
+pub low_bits : (j k : ℕ) → bit (2 ^ k - 1) j ≡ ltb j k
+low_bits j k = elim (cases_lt j k) [
+  | inl l ↦ bit_is (2 ^ k - 1) j 1 (bit_at_ones k j l) ∙ sym (lt-ltb j k l)
+  | inr l ↦ bit_is (2 ^ k - 1) j 0 (bit_at_ones_above k j l) ∙ sym (le-ltb j k l)
+]
 
 -- ---- the lowest digit, and the rest
 
 pub bit_first : (w : ℕ) → bit w 0 ≡ eqb (w % 2) 1
-unfolding bit
-bit_first w = ap (λ x. eqb (x % 2) 1) (div-one w)
+bit_first w = bit_is w 0 (w % 2) (bit_at_lowest w)
 
 pub bit_suc : (w j : ℕ) → bit w (suc j) ≡ bit (w / 2) j
 unfolding bit
-bit_suc w j = sym (ap (λ x. eqb (x % 2) 1) (shr-shr w 1 j) ∙ ap (λ i. eqb (w / 2 ^ i % 2) 1) (one-add j))
+bit_suc w j = bit_is w (suc j) _ (bit_at-suc w j)
 
--- the word of the lowest k bits
-pub low_bits : (j k : ℕ) → bit (2 ^ k - 1) j ≡ ltb j k
-low_bits j zero = ap (λ x. bit (x - 1) j) (pow-zero 2) ∙ bit_zero j ∙ sym (le-ltb j 0 (omega arith))
-low_bits zero (suc k) =
-    let pos : 0 < 2 ^ k = pow_pos k in
-    let odd : (2 ^ suc k - 1) % 2 ≡ 1 = omega (arith, pow-suc 2 k) in
-    bit_first (2 ^ suc k - 1) ∙ ap (λ x. eqb x 1) odd ∙ sym (lt-ltb 0 (suc k) (omega arith))
-low_bits (suc j) (suc k) =
-    let pos : 0 < 2 ^ k = pow_pos k in
-    let half : (2 ^ suc k - 1) / 2 ≡ 2 ^ k - 1 = omega (arith, pow-suc 2 k) in
-    bit_suc (2 ^ suc k - 1) j ∙ ap (λ x. bit x j) half ∙ low_bits j k ∙ ltb_suc
+-- t is below k, and the place of the lowest digit that is set
+abbrev pub Lowest : ℕ → ℕ → ℕ → Type 0
+Lowest k w t = (t < k) × (bit w t ≡ true) × ((j : ℕ) → j < t → bit w j ≡ false)
+
+lowest_by : (k w t d : ℕ) → w % 2 ≡ d → 0 < w → (0 < w / 2 → Lowest k (w / 2) t) → Lowest (suc k) w (under d t)
+lowest_by k w t zero even some half = let h = half (omega arith) in (omega arith, bit_suc w t ∙ h.1, rest h.2)
   where
-    ltb_suc : ltb j k ≡ ltb (suc j) (suc k)
-    ltb_suc = elim (cases_lt j k) [
-      | inl l ↦ lt-ltb j k l ∙ sym (lt-ltb (suc j) (suc k) (omega arith))
-      | inr l ↦ le-ltb j k l ∙ sym (le-ltb (suc j) (suc k) (omega arith))
-    ]
+    rest : ((j : ℕ) → j < t → bit (w / 2) j ≡ false) → (j : ℕ) → j < suc t → bit w j ≡ false
+    rest h zero l = bit_first w ∙ ap (λ x. eqb x 1) even
+    rest h (suc j) l = bit_suc w j ∙ h j (omega arith)
+lowest_by k w t (suc d) odd some half = let one : w % 2 ≡ 1 = omega arith in (omega arith, bit_first w ∙ ap (λ x. eqb x 1) one, λ j l. absurd (omega arith))
 
--- ---- the lowest digit that is set
-
-trailing_step : (k w : ℕ) → ((w % 2 ≡ 0) × (count_trailing_zeros (suc k) w ≡ suc (count_trailing_zeros k (w / 2)))) ⊎ ((w % 2 ≡ 1) × (count_trailing_zeros (suc k) w ≡ 0))
+pub lowest : (k w : ℕ) → 0 < w → w < 2 ^ k → Lowest k w (count_trailing_zeros k w)
 unfolding count_trailing_zeros
-trailing_step k w = go (w % 2) refl (below_two w)
-  where
-    go : (d : ℕ) → w % 2 ≡ d → w % 2 < 2 → ((w % 2 ≡ 0) × (under (w % 2) (count_trailing_zeros k (w / 2)) ≡ suc (count_trailing_zeros k (w / 2)))) ⊎ ((w % 2 ≡ 1) × (under (w % 2) (count_trailing_zeros k (w / 2)) ≡ 0))
-    go zero e h = inl (e, ap (λ x. under x (count_trailing_zeros k (w / 2))) e)
-    go (suc zero) e h = inr (e, ap (λ x. under x (count_trailing_zeros k (w / 2))) e)
-    go (suc (suc d)) e h = absurd (omega arith)
-
-pub trailing_first : (k w j : ℕ) → j < count_trailing_zeros k w → bit w j ≡ false
-unfolding count_trailing_zeros
-trailing_first zero w j l = absurd (omega arith)
-trailing_first (suc k) w j l = go (trailing_step k w) j l (λ i h. trailing_first k (w / 2) i h)
-  where
-    go : ((w % 2 ≡ 0) × (count_trailing_zeros (suc k) w ≡ suc (count_trailing_zeros k (w / 2)))) ⊎ ((w % 2 ≡ 1) × (count_trailing_zeros (suc k) w ≡ 0))
-        → (j : ℕ) → j < count_trailing_zeros (suc k) w → ((i : ℕ) → i < count_trailing_zeros k (w / 2) → bit (w / 2) i ≡ false) → bit w j ≡ false
-    go (inl (e, t)) zero h rest = bit_first w ∙ ap (λ x. eqb x 1) e
-    go (inl (e, t)) (suc i) h rest = bit_suc w i ∙ rest i (omega arith)
-    go (inr (e, t)) i h rest = absurd (omega arith)
+lowest zero w some fits = absurd (omega (arith, pow-zero 2))
+lowest (suc k) w some fits = lowest_by k w (count_trailing_zeros k (w / 2)) (w % 2) refl some (λ rest. lowest k (w / 2) rest (omega (arith, pow-suc 2 k)))
 
 pub trailing_here : (k w : ℕ) → 0 < w → w < 2 ^ k → (count_trailing_zeros k w < k) × (bit w (count_trailing_zeros k w) ≡ true)
-trailing_here zero w p h = absurd (omega (arith, pow-zero 2))
-trailing_here (suc k) w p h = go (trailing_step k w) (λ q r. trailing_here k (w / 2) q r)
-  where
-    go : ((w % 2 ≡ 0) × (count_trailing_zeros (suc k) w ≡ suc (count_trailing_zeros k (w / 2)))) ⊎ ((w % 2 ≡ 1) × (count_trailing_zeros (suc k) w ≡ 0))
-        → (0 < w / 2 → w / 2 < 2 ^ k → (count_trailing_zeros k (w / 2) < k) × (bit (w / 2) (count_trailing_zeros k (w / 2)) ≡ true))
-        → (count_trailing_zeros (suc k) w < suc k) × (bit w (count_trailing_zeros (suc k) w) ≡ true)
-    go (inl (e, t)) rest =
-        let r = rest (omega arith) (omega (arith, pow-suc 2 k)) in
-        (omega (arith, r.0), ap (bit w) t ∙ bit_suc w (count_trailing_zeros k (w / 2)) ∙ r.1)
-    go (inr (e, t)) rest = (omega arith, ap (bit w) t ∙ bit_first w ∙ ap (λ x. eqb x 1) e)
+trailing_here k w some fits = let l = lowest k w some fits in (l.0, l.1)
 
 -- `w ^ (1 << k)` where digit k is set: that digit is gone, the others stay
 pub bit_cleared : (w x k j : ℕ) → x ≡ 2 ^ k → bit w k ≡ true → bit (bit_xor w x) j ≡ (bit w j && not (eqb j k))
 bit_cleared w x k j is t =
     ap (λ y. bit (bit_xor w y) j) is ∙ bit-bit_xor w (2 ^ k) j
-    ∙ ap (λ b. (bit w j && not b) || (not (bit w j) && b)) (bit_lone k j) ∙ go (cases_order j k)
+    ∙ ap (λ b. (bit w j && not b) || (not (bit w j) && b)) (bit_lone k j) ∙ off (bit w j) (eqb j k) (λ e. ap (bit w) (eqb-true j k e) ∙ t)
   where
-    at : (b : Bool) → b ≡ true → ((b && false) || (not b && true)) ≡ (b && false)
-    at true e = refl
-    at false e = let z : true ≡ false = sym e in cc
-
-    off : (b : Bool) → ((b && true) || (not b && false)) ≡ (b && true)
-    off true = refl
-    off false = refl
-
-    apart : eqb j k ≡ false → ((bit w j && not (eqb j k)) || (not (bit w j) && eqb j k)) ≡ (bit w j && not (eqb j k))
-    apart e = rw e (off (bit w j))
-
-    go : (j ≡ k) ⊎ ((j < k) ⊎ (k < j)) → ((bit w j && not (eqb j k)) || (not (bit w j) && eqb j k)) ≡ (bit w j && not (eqb j k))
-    go (inl e) = rw (eq-eqb j k e) (at (bit w j) (ap (bit w) e ∙ t))
-    go (inr (inl l)) = apart (ne_eqb j k (λ q. omega arith))
-    go (inr (inr l)) = apart (ne_eqb j k (λ q. omega arith))
+    off : (b c : Bool) → (c ≡ true → b ≡ true) → ((b && not c) || (not b && c)) ≡ (b && not c)
+    off true true h = refl
+    off true false h = refl
+    off false true h = sym (h refl)
+    off false false h = refl
 
 -- ---- words of the same digits are equal
 
-same_digit : (x y : ℕ) → x < 2 → y < 2 → eqb x 1 ≡ eqb y 1 → x ≡ y
-same_digit zero zero h k e = refl
-same_digit (suc zero) (suc zero) h k e = refl
-same_digit zero (suc zero) h k e = absurd (let z : ◌≡◌ {A = Bool} true false = sym e in let y : ◌≡◌ {A = ℕ} 0 1 = cc in omega arith)
-same_digit (suc zero) zero h k e = absurd (let z : ◌≡◌ {A = Bool} true false = e in let y : ◌≡◌ {A = ℕ} 0 1 = cc in omega arith)
-same_digit zero (suc (suc y)) h k e = absurd (omega arith)
-same_digit (suc zero) (suc (suc y)) h k e = absurd (omega arith)
-same_digit (suc (suc x)) y h k e = absurd (omega arith)
-
 pub same_words : (k a b : ℕ) → a < 2 ^ k → b < 2 ^ k → ((j : ℕ) → j < k → bit a j ≡ bit b j) → a ≡ b
-same_words zero a b h g e = omega (arith, pow-zero 2)
-same_words (suc k) a b h g e =
-    let low : a % 2 ≡ b % 2 = same_digit (a % 2) (b % 2) (below_two a) (below_two b) (sym (bit_first a) ∙ e 0 (omega arith) ∙ bit_first b) in
-    let high : a / 2 ≡ b / 2 = same_words k (a / 2) (b / 2) (omega (arith, pow-suc 2 k)) (omega (arith, pow-suc 2 k)) (λ j l. sym (bit_suc a j) ∙ e (suc j) (omega arith) ∙ bit_suc b j) in
-    omega arith
+unfolding bit
+same_words k a b h g e =
+    same_from_bits_below k a b h g (λ j l. digits (λ x y. eqb x 1 ≡ eqb y 1 → x ≡ y) (λ _. refl) (λ z. absurd (true≢false (sym z))) (λ z. absurd (true≢false z)) (λ _. refl) a b j (e j l))

@@ -1,27 +1,14 @@
 -- What stands on the stack, and what is held, once edges were handed out and the rule was asked about a list of edges. Assumes nothing.
 use Rattle.std.proofs.Common.{◌≡◌, ℕ, ◌+◌, ◌≤◌, Bool, true, false, cond, ◌⊎◌, List, [], ◌∷◌, ◌++◌, length, Some, None, filter, Option, sym, refl, ap, ◌∙◌, subst, inl, inr, ⊎_elim, true≢false, arith, length-append}
-use Rattle.std.proofs.lemmas.Bool.{cond_both, cond-true, or_cases, or_left, or_right, eqb-true, eq-eqb}
+use Rattle.std.proofs.Math.Logic.{⊎_map}
+use Rattle.std.proofs.lemmas.Bool.{cond_both, or_cases, or_left, or_right, eqb-true, eq-eqb}
 use Rattle.std.proofs.lemmas.List.Filters.{length-filter_both}
 use Rattle.theory.specs.Edges.{In}
 use Rattle.theory.specs.Rules.{Rule, Waits, is_node, waits_on, stays_at, was_told, hands, held_for, holds, Fair, in_turn}
 use Rattle.theory.specs.Least.{Opens}
 use Rattle.theory.specs.Walk.{send, sends, Asked, asks}
 use Rattle.theory.proofs.Kept.{in_kept, kept_in, kept_all}
-
-in_front : {X : Type 0} (x : X) (xs ys : List X) → In x xs → In x (xs ++ ys)
-in_front x [] ys i = absurd i
-in_front x (y ∷ xs) ys (inl e) = inl e
-in_front x (y ∷ xs) ys (inr i) = inr (in_front x xs ys i)
-
-in_last : {X : Type 0} (x : X) (xs : List X) → In x (xs ++ x ∷ [])
-in_last x [] = inl refl
-in_last x (y ∷ xs) = inr (in_last x xs)
-
-in_joined : {X : Type 0} (x y : X) (xs : List X) → In x (xs ++ y ∷ []) → In x xs ⊎ (x ≡ y)
-in_joined x y [] (inl e) = inr e
-in_joined x y [] (inr i) = absurd i
-in_joined x y (z ∷ xs) (inl e) = inl (inl e)
-in_joined x y (z ∷ xs) (inr i) = ⊎_elim (λ j. inl (inr j)) (λ e. inr e) (in_joined x y xs i)
+use Rattle.theory.proofs.Reaching.{in_cases, in_left, in_right}
 
 told_some : (d : ℕ → Bool) (o : Option ℕ) → was_told d o ≡ true → (w : ℕ) × (o ≡ Some w) × (d w ≡ true)
 told_some d None t = absurd (true≢false (sym t))
@@ -40,7 +27,7 @@ module _ {E : Type 0} (r : Rule E) where
   opens_hands d e (inr (w, q, t)) = or_right (r.passes e) (was_told d (r.waits e)) (ap (was_told d) q ∙ t)
 
   hands_opens : (d : ℕ → Bool) (e : E) → hands r d e ≡ true → Opens r d e
-  hands_opens d e h = ⊎_elim (λ p. inl p) (λ t. inr (told_some d (r.waits e) t)) (or_cases (r.passes e) (was_told d (r.waits e)) h)
+  hands_opens d e h = ⊎_map (λ p. p) (λ t. told_some d (r.waits e) t) (or_cases (r.passes e) (was_told d (r.waits e)) h)
 
   -- what opens for a set opens for all that has its nodes
   pub opens_more : (d : ℕ → Bool) (T : ℕ → Type 0) (e : E) → ((n : ℕ) → d n ≡ true → T n) → Opens r d e → (r.passes e ≡ true) ⊎ ((w : ℕ) × Waits r e w × T w)
@@ -63,35 +50,38 @@ in_turn_fair passes waits = record {
   each = λ n held p. refl;
 }
 
+-- the list l' is l, or where C holds l with x
+record Puts {X : Type 0} (C : Type 0) (x : X) (l l' : List X) : Type 0 where
+  keeps : (y : X) → In y l → In y l'
+  new : (y : X) → In y l' → In y l ⊎ (C × (y ≡ x))
+  most : length l' ≤ length l + 1
+
+puts_none : {X : Type 0} {C : Type 0} {x : X} {l : List X} → Puts C x l l
+puts_none = record { keeps = λ y i. i; new = λ y i. inl i; most = omega arith }
+
 -- what holding one edge makes of the held list
 module _ {E : Type 0} (d : ℕ → Bool) (held : List E) (e : E) where
-  hold_keeps : (o : Option ℕ) (f : E) → In f held → In f (held_for d held e o)
-  hold_keeps None f i = i
-  hold_keeps (Some w) f i = cond_both (d w) held (held ++ e ∷ []) (In f) (λ _. i) (λ _. in_front f held (e ∷ []) i)
-
-  hold_new : (o : Option ℕ) (f : E) → In f (held_for d held e o) → In f held ⊎ (f ≡ e)
-  hold_new None f i = inl i
-  hold_new (Some w) f i = cond_both (d w) held (held ++ e ∷ []) (λ l. In f l → In f held ⊎ (f ≡ e)) (λ _ j. inl j) (λ _ j. in_joined f e held j) i
+  hold_puts : (o : Option ℕ) → Puts (Unit {0}) e held (held_for d held e o)
+  hold_puts None = puts_none
+  hold_puts (Some w) = cond_both (d w) held (held ++ e ∷ []) (Puts (Unit {0}) e held) (λ _. puts_none) (λ _. record {
+    keeps = λ f. in_left f held (e ∷ []);
+    new = λ f i. ⊎_elim (λ k. inl k) (⊎_elim (λ q. inr (tt, q)) (λ z. absurd z)) (in_cases f held (e ∷ []) i);
+    most = omega (arith, length-append held (e ∷ []));
+  })
 
   hold_own : (o : Option ℕ) (w : ℕ) → o ≡ Some w → d w ≡ false → In e (held_for d held e o)
-  hold_own o w q n = subst (λ v. In e (held_for d held e v)) (sym q) (subst (λ b. In e (cond b held (held ++ e ∷ []))) (sym n) (in_last e held))
-
-  hold_most : (o : Option ℕ) → length (held_for d held e o) ≤ length held + 1
-  hold_most None = omega arith
-  hold_most (Some w) = cond_both (d w) held (held ++ e ∷ []) (λ l. length l ≤ length held + 1) (λ _. omega arith) (λ _. omega (arith, length-append held (e ∷ [])))
+  hold_own o w q n = rw (q, n) (in_right e held (e ∷ []) (inl refl))
 
 module _ {E : Type 0} (far : E → ℕ) (d : ℕ → Bool) where
-  send_keeps : (e : E) (st : List ℕ) (n : ℕ) → In n st → In n (send far d e st)
-  send_keeps e st n i = cond_both (d (far e)) st (far e ∷ st) (In n) (λ _. i) (λ _. inr i)
-
-  send_new : (e : E) (st : List ℕ) (n : ℕ) → In n (send far d e st) → In n st ⊎ (n ≡ far e)
-  send_new e st n i = cond_both (d (far e)) st (far e ∷ st) (λ l. In n l → In n st ⊎ (n ≡ far e)) (λ _ j. inl j) (λ _. ⊎_elim (λ q. inr q) (λ j. inl j)) i
+  send_puts : {C : Type 0} → C → (e : E) (st : List ℕ) → Puts C (far e) st (send far d e st)
+  send_puts {C} h e st = cond_both (d (far e)) st (far e ∷ st) (Puts C (far e) st) (λ _. puts_none) (λ _. record {
+    keeps = λ n i. inr i;
+    new = λ n. ⊎_elim (λ q. inr (h, q)) (λ j. inl j);
+    most = omega arith;
+  })
 
   send_own : (e : E) (st : List ℕ) → (d (far e) ≡ true) ⊎ In (far e) (send far d e st)
   send_own e st = cond_both (d (far e)) st (far e ∷ st) (λ l. (d (far e) ≡ true) ⊎ In (far e) l) (λ t. inl t) (λ _. inr (inl refl))
-
-  send_most : (e : E) (st : List ℕ) → length (send far d e st) ≤ length st + 1
-  send_most e st = cond_both (d (far e)) st (far e ∷ st) (λ l. length l ≤ length st + 1) (λ _. omega arith) (λ _. omega arith)
 
   -- the edges es were handed out over the stack st, which is now st'
   pub record Sent (es : List E) (st st' : List ℕ) : Type 0 where
@@ -104,13 +94,14 @@ module _ {E : Type 0} (far : E → ℕ) (d : ℕ → Bool) where
   sent [] st = record { keeps = λ n i. i; new = λ n i. inl i; all = λ e i. absurd i; most = omega arith }
   sent (e ∷ es) st =
       let q = sent es (send far d e st) in
+      let u : Puts (Unit {0}) (far e) st (send far d e st) = send_puts tt e st in
       record {
-        keeps = λ n i. q.keeps n (send_keeps e st n i);
-        new = λ n i. ⊎_elim (λ j. ⊎_elim (λ k. inl k) (λ z. inr (e, inl refl, z)) (send_new e st n j)) (λ (f, k, z). inr (f, inr k, z)) (q.new n i);
+        keeps = λ n i. q.keeps n (u.keeps n i);
+        new = λ n i. ⊎_elim (λ j. ⊎_elim (λ k. inl k) (λ (_, z). inr (e, inl refl, z)) (u.new n j)) (λ (f, k, z). inr (f, inr k, z)) (q.new n i);
         all = λ f. ⊎_elim
-            (λ z. subst (λ v. (d (far v) ≡ true) ⊎ In (far v) (sends far d es (send far d e st))) (sym z) (⊎_elim (λ t. inl t) (λ j. inr (q.keeps (far e) j)) (send_own e st)))
+            (λ z. subst (λ v. (d (far v) ≡ true) ⊎ In (far v) (sends far d es (send far d e st))) (sym z) (⊎_map (λ t. t) (λ j. q.keeps (far e) j) (send_own e st)))
             (q.all f);
-        most = omega (arith, q.most, send_most e st);
+        most = omega (arith, q.most, u.most);
       }
 
   module _ (r : Rule E) where
@@ -128,21 +119,11 @@ module _ {E : Type 0} (far : E → ℕ) (d : ℕ → Bool) where
     abbrev given : E → List ℕ → List ℕ
     given e st = cond (hands r d e) (send far d e st) st
 
-    given_keeps : (e : E) (st : List ℕ) (n : ℕ) → In n st → In n (given e st)
-    given_keeps e st n i = cond_both (hands r d e) (send far d e st) st (In n) (λ _. send_keeps e st n i) (λ _. i)
-
-    given_new : (e : E) (st : List ℕ) (n : ℕ) → In n (given e st) → In n st ⊎ (Opens r d e × (n ≡ far e))
-    given_new e st n i =
-        cond_both (hands r d e) (send far d e st) st (λ l. In n l → In n st ⊎ (Opens r d e × (n ≡ far e)))
-        (λ h j. ⊎_elim (λ k. inl k) (λ z. inr (hands_opens r d e h, z)) (send_new e st n j))
-        (λ _ j. inl j)
-        i
+    given_puts : (e : E) (st : List ℕ) → Puts (Opens r d e) (far e) st (given e st)
+    given_puts e st = cond_both (hands r d e) (send far d e st) st (Puts (Opens r d e) (far e) st) (λ h. send_puts (hands_opens r d e h) e st) (λ _. puts_none)
 
     given_own : (e : E) (st : List ℕ) → Opens r d e → (d (far e) ≡ true) ⊎ In (far e) (given e st)
-    given_own e st o = subst (λ l. (d (far e) ≡ true) ⊎ In (far e) l) (sym (cond-true (hands r d e) (send far d e st) st (opens_hands r d e o))) (send_own e st)
-
-    given_most : (e : E) (st : List ℕ) → length (given e st) ≤ length st + 1
-    given_most e st = cond_both (hands r d e) (send far d e st) st (λ l. length l ≤ length st + 1) (λ _. send_most e st) (λ _. omega arith)
+    given_own e st o = rw (opens_hands r d e o) (send_own e st)
 
     pub answered : (es : List E) (st : List ℕ) (held : List E) → Answered es st held (asks far r d es st held)
     answered [] st held = record {
@@ -158,17 +139,19 @@ module _ {E : Type 0} (far : E → ℕ) (d : ℕ → Bool) where
     answered (e ∷ es) st held =
         let q = answered es (given e st) (holds r d held e) in
         let a = asks far r d es (given e st) (holds r d held e) in
+        let u = given_puts e st in
+        let v = hold_puts d held e (r.waits e) in
         record {
-          keeps = λ n i. q.keeps n (given_keeps e st n i);
-          new = λ n i. ⊎_elim (λ j. ⊎_elim (λ k. inl k) (λ (o, z). inr (e, inl refl, o, z)) (given_new e st n j)) (λ (f, k, o, z). inr (f, inr k, o, z)) (q.new n i);
+          keeps = λ n i. q.keeps n (u.keeps n i);
+          new = λ n i. ⊎_elim (λ j. ⊎_elim (λ k. inl k) (λ (o, z). inr (e, inl refl, o, z)) (u.new n j)) (λ (f, k, o, z). inr (f, inr k, o, z)) (q.new n i);
           all = λ f. ⊎_elim
-              (λ z. subst (λ v. Opens r d v → (d (far v) ≡ true) ⊎ In (far v) a.stack) (sym z) (λ o. ⊎_elim (λ t. inl t) (λ j. inr (q.keeps (far e) j)) (given_own e st o)))
+              (λ z. subst (λ v. Opens r d v → (d (far v) ≡ true) ⊎ In (far v) a.stack) (sym z) (λ o. ⊎_map (λ t. t) (λ j. q.keeps (far e) j) (given_own e st o)))
               (q.all f);
-          most = omega (arith, q.most, given_most e st);
-          held_keeps = λ f i. q.held_keeps f (hold_keeps d held e (r.waits e) f i);
-          held_new = λ f i. ⊎_elim (λ j. ⊎_elim (λ k. inl k) (λ z. inr (inl z)) (hold_new d held e (r.waits e) f j)) (λ j. inr (inr j)) (q.held_new f i);
+          most = omega (arith, q.most, u.most);
+          held_keeps = λ f i. q.held_keeps f (v.keeps f i);
+          held_new = λ f i. ⊎_elim (λ j. ⊎_elim (λ k. inl k) (λ (_, z). inr (inl z)) (v.new f j)) (λ j. inr (inr j)) (q.held_new f i);
           held_all = λ f w. ⊎_elim
               (λ z. subst (λ v. Waits r v w → d w ≡ false → In v a.held) (sym z) (λ p t. q.held_keeps e (hold_own d held e (r.waits e) w p t)))
               (q.held_all f w);
-          held_most = omega (arith, q.held_most, hold_most d held e (r.waits e));
+          held_most = omega (arith, q.held_most, v.most);
         }

@@ -1,20 +1,18 @@
 -- Chains of links, and the lists that they stand for: a link that tells the latest item stays right as an item is added,
 -- and a walk along the links gives just the items with the key, the latest first. Assumes nothing.
-use Rattle.std.proofs.Common.{◌≡◌, ℕ, zero, suc, ◌+◌, ◌-◌, ◌<◌, ◌≤◌, true, false, eqb, leb, [], ◌∷◌, Some, sym, refl, ap, ◌∙◌, subst, inl, inr, add-one, sub-one, arith}
+use Rattle.std.proofs.Common.{◌≡◌, ℕ, zero, suc, ◌+◌, ◌-◌, ◌<◌, ◌≤◌, eqb, leb, [], ◌∷◌, Some, sym, refl, ap, ◌∙◌, subst, inl, inr, add-one, sub-one, arith}
 use native.Mathlib.Bridge.{le_prop}
 use native.Mathlib.Nat.{ℕ_set}
 use std.HLevel.{Π_prop}
-use Rattle.std.proofs.lemmas.Bool.{cond_both, cond-true, cond-false, eqb-true, ne_eqb, eq-eqb, cases_lt, le-leb}
+use Rattle.std.proofs.lemmas.Bool.{cond-true, eqb-true, ne_eqb, eq-eqb, cases_lt, le-leb}
 use Rattle.theory.specs.Edges.{Edge, In, Once}
 use Rattle.theory.specs.Graphs.{Steps}
 use Rattle.theory.specs.Chains.{newest, keyed, Last, from}
-
-none_prop : IsProp ⊥
-none_prop p q = absurd p
+use Rattle.theory.proofs.Kept.{in_kept, kept_in, once_kept}
 
 pub last_prop : {f : ℕ → ℕ} {k n h : ℕ} → IsProp (Last f k n h)
 last_prop p q =
-    λ i. (le_prop p.0 q.0 i, Π_prop (λ j. Π_prop (λ _. Π_prop (λ _. Π_prop (λ _. none_prop)))) p.1 q.1 i, Π_prop (λ _. ℕ_set _ _) p.2 q.2 i)
+    λ i. (le_prop p.0 q.0 i, Π_prop (λ j. Π_prop (λ _. Π_prop (λ _. Π_prop (λ _ p. absurd p)))) p.1 q.1 i, Π_prop (λ _. ℕ_set _ _) p.2 q.2 i)
 
 -- no item yet, and no link
 pub last_none : (f : ℕ → ℕ) (n : ℕ) → Last f 0 n 0
@@ -67,16 +65,14 @@ module _ {X : Type 0} (key : X → ℕ) (at : ℕ → X) where
       elim (cases_lt k h) [
         | inl more ↦ let z : suc k ≡ h = omega arith in ap (λ x. keyed key at x n) z
         | inr less ↦
-            let here : eqb (key (at k)) n ≡ false = ne_eqb (key (at k)) n (none k less (omega arith)) in
-            cond-false (eqb (key (at k)) n) (at k ∷ keyed key at k n) (keyed key at k n) here
-            ∙ keyed_skip k n h less (λ j low high. none j low (omega arith))
+            rw (ne_eqb (key (at k)) n (none k less (omega arith))) (keyed_skip k n h less (λ j low high. none j low (omega arith)))
       ]
 
   -- what is left from a link on is the list that the link stands for
   pub from_last : (count k n h : ℕ) → k ≤ count → Last (λ j. key (at j)) k n h → from key at count h ≡ keyed key at k n
   from_last count k n h b l =
       let within : h ≤ k = l.0 in
-      let start = cond-true (leb h count) (keyed key at h (key (at (h - 1)))) [] (le-leb h count (omega arith)) in
+      let start : from key at count h ≡ keyed key at h (key (at (h - 1))) = rw (le-leb h count (omega arith)) in
       let end = sym (keyed_skip k n h l.0 l.1) in
       start ∙ here h l.2 ∙ end
     where
@@ -84,25 +80,23 @@ module _ {X : Type 0} (key : X → ℕ) (at : ℕ → X) where
       here zero _ = refl
       here (suc x) q = ap (keyed key at (suc x)) (q (omega arith))
 
+  in_newest : (k : ℕ) (e : X) → In e (newest at k) → (j : ℕ) × (j < k) × (e ≡ at j)
+  in_newest zero e h = absurd h
+  in_newest (suc k) e (inl q) = (k, omega arith, q)
+  in_newest (suc k) e (inr i) = let r = in_newest k e i in let b = r.1 in (r.0, omega arith, r.2)
+
+  newest_in : (k j : ℕ) → j < k → In (at j) (newest at k)
+  newest_in zero j b = absurd (omega arith)
+  newest_in (suc k) j b = elim (cases_lt j k) [ inl less ↦ inr (newest_in k j less) | inr more ↦ let same : j ≡ k = omega arith in inl (ap at same) ]
+
   pub in_keyed : (k n : ℕ) (e : X) → In e (keyed key at k n) → (j : ℕ) × (j < k) × (key (at j) ≡ n) × (e ≡ at j)
-  in_keyed zero n e h = absurd h
-  in_keyed (suc k) n e h =
-      cond_both (eqb (key (at k)) n) (at k ∷ keyed key at k n) (keyed key at k n) (λ zs. In e zs → (j : ℕ) × (j < suc k) × (key (at j) ≡ n) × (e ≡ at j))
-      (λ t m. elim m [ inl q ↦ (k, omega arith, eqb-true (key (at k)) n t, q) | inr i ↦ let r = in_keyed k n e i in let b : r.0 < k = r.1 in (r.0, omega arith, r.2, r.3) ])
-      (λ _ i. let r = in_keyed k n e i in let b : r.0 < k = r.1 in (r.0, omega arith, r.2, r.3))
-      h
+  in_keyed k n e h =
+      let r = in_kept (λ x. eqb (key x) n) (newest at k) e h in
+      let q = in_newest k e r.0 in
+      (q.0, q.1, ap key (sym q.2) ∙ eqb-true (key e) n r.1, q.2)
 
   pub keyed_in : (k n j : ℕ) → j < k → key (at j) ≡ n → In (at j) (keyed key at k n)
-  keyed_in zero n j b q = absurd (omega arith)
-  keyed_in (suc k) n j b q =
-      cond_both (eqb (key (at k)) n) (at k ∷ keyed key at k n) (keyed key at k n) (λ zs. In (at j) zs)
-      (λ _. elim (cases_lt j k) [ inl less ↦ inr (keyed_in k n j less q) | inr more ↦ let same : j ≡ k = omega arith in inl (ap at same) ])
-      (λ t. elim (cases_lt j k) [
-        | inl less ↦ keyed_in k n j less q
-        | inr more ↦ let same : j ≡ k = omega arith in
-            let yes : eqb (key (at k)) n ≡ true = eq-eqb (key (at k)) n (ap (λ i. key (at i)) (sym same) ∙ q) in
-            let z : true ≡ false = sym yes ∙ t in absurd (let y : ◌≡◌ {A = ℕ} 0 1 = cc in omega arith)
-      ])
+  keyed_in k n j b q = kept_in (λ x. eqb (key x) n) (newest at k) (at j) (newest_in k j b) (eq-eqb (key (at j)) n q)
 
   -- a link to an item, and then what the item's own link stands for
   from_suc : (count k : ℕ) → k < count → from key at count (suc k) ≡ at k ∷ keyed key at k (key (at k))
@@ -122,15 +116,15 @@ module _ {X : Type 0} (key : X → ℕ) (at : ℕ → X) where
 
 -- numbered edges are listed once
 pub once_keyed : {W : Type 0} (key : Edge W → ℕ) (at : ℕ → Edge W) → ((j : ℕ) → (at j).number ≡ j) → (k n : ℕ) → Once (keyed key at k n)
-once_keyed key at num zero n = tt
-once_keyed {W} key at num (suc k) n =
-    cond_both (eqb (key (at k)) n) (at k ∷ keyed key at k n) (keyed key at k n) (λ zs. Once zs)
-    (λ _. (
+once_keyed {W} key at num k n = once_kept (λ e. eqb (key e) n) (newest at k) (once_newest k)
+  where
+    once_newest : (k : ℕ) → Once (newest at k)
+    once_newest zero = tt
+    once_newest (suc k) = (
       λ e i same.
-          let r = in_keyed key at k n e i in
+          let r = in_newest key at k e i in
           let b : r.0 < k = r.1 in
-          let p : e.number ≡ r.0 = ap (λ (x : Edge W). x.number) r.3 ∙ num r.0 in
+          let p : e.number ≡ r.0 = ap (λ (x : Edge W). x.number) r.2 ∙ num r.0 in
           let q : (at k).number ≡ k = num k in omega arith,
-      once_keyed key at num k n,
-    ))
-    (λ _. once_keyed key at num k n)
+      once_newest k,
+    )

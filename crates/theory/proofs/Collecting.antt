@@ -1,22 +1,29 @@
 -- Kosaraju's groups are the components: what is kept from group to group, and where it ends. Assumes nothing.
-use Rattle.std.proofs.Common.{◌≡◌, ℕ, zero, suc, ◌+◌, ◌<◌, ◌≤◌, ◌⊎◌, List, [], ◌∷◌, ◌++◌, reverse, length, sym, refl, subst, inl, inr, ⊎_elim, arith, length-append}
+use Rattle.std.proofs.Common.{◌≡◌, ℕ, ◌+◌, ◌<◌, ◌≤◌, ◌⊎◌, List, [], ◌∷◌, ◌++◌, reverse, length, sym, refl, subst, inl, inr, ⊎_elim, arith}
+use Rattle.std.proofs.Math.Logic.{⊎_map}
 use Rattle.theory.specs.Components.{Classes, Components, Onward, collect, components, flat, gather, group, pull, take}
 use Rattle.theory.specs.Edges.{In, Distinct}
-use Rattle.theory.specs.PostOrder.{Post, State, below, fresh, fuel, in?, sweep, weight}
-use Rattle.theory.specs.Reach.{Inside, Leads, Reach, Same, Turned, here, more}
+use Rattle.theory.specs.PostOrder.{Post, below, fresh, fuel, in?, sweep, weight}
+use Rattle.theory.specs.Reach.{Inside, Leads, Reach, Same, Turned, here}
 use Rattle.theory.proofs.Finishing.{late}
 use Rattle.theory.proofs.Gathering.{Part, part_all, part_reverse, part_shut, part_skip, part_start, part_take}
 use Rattle.theory.proofs.Pushing.{adds, fresh_length, pushed, weight_falls, weight_most}
-use Rattle.theory.proofs.Reaching.{in_cases, in_left, in_right, reach_turn}
-use Rattle.theory.proofs.PostRunning.{fresh_nodes}
+use Rattle.theory.proofs.Reaching.{in_cases, in_left, in_right, popped, reach_keeps, reach_turn}
+use Rattle.theory.proofs.PostRunning.{Falls, Nodes, fresh_nodes, one_node}
+use Rattle.theory.proofs.Machines.{all_keep, comes_to_end}
+use Rattle.theory.proofs.Steps.{Empty, gather_machine, pull_stays}
 use Rattle.theory.proofs.Sweeping.{sweep_finishes_in_post_order}
 
-pub gather_keeps : (out : ℕ → List ℕ) (P : (s t g : List ℕ) → Type 0) → ((s t g : List ℕ) → P s t g → P (pull out s t g).stack (pull out s t g).disc (pull out s t g).fin) → (k : ℕ) (s t g : List ℕ) → P s t g → P (gather out k s t g).stack (gather out k s t g).disc (gather out k s t g).fin
-unfolding gather
-gather_keeps out P keep zero s t g h = h
-gather_keeps out P keep (suc k) s t g h =
-    let x = pull out s t g in
-    gather_keeps out P keep k x.stack x.disc x.fin (keep s t g h)
+-- a statement on states that every taking keeps is kept by a gathering
+pub gather_keeps : (out : ℕ → List ℕ) (P : (s t g : List ℕ) → Type 0)
+    → ((v : ℕ) (s t g : List ℕ) (a : Dec (In v t)) → P (v ∷ s) t g → P (take out v s t g a).stack (take out v s t g a).disc (take out v s t g a).fin)
+    → (k : ℕ) (s t g : List ℕ) → P s t g → P (gather out k s t g).stack (gather out k s t g).disc (gather out k s t g).fin
+gather_keeps out P keep k s t g h =
+    all_keep (gather_machine out) (λ x. P x.stack x.disc x.fin) (λ x. each x.stack x.disc x.fin) k (record { stack = s; disc = t; fin = g }) h
+  where
+    each : (s t g : List ℕ) → P s t g → P (pull out s t g).stack (pull out s t g).disc (pull out s t g).fin
+    each [] t g p = p
+    each (v ∷ s) t g p = keep v s t g (in? v t) p
 
 once_append : (s t : List ℕ) → Distinct s → Distinct t → ((x : ℕ) → In x s → In x t → ⊥) → Distinct (s ++ t)
 once_append [] t a b n = b
@@ -26,33 +33,24 @@ once_append (x ∷ s) t a b n = (
 )
 
 reach_node : (out : ℕ → List ℕ) (n : ℕ) → Inside n out → (a b : ℕ) → a < n → Reach (Leads out) a b → b < n
-reach_node out n inside a b h here = h
-reach_node out n inside a b h (more {b = c} r e) = inside c b e
+reach_node out n inside a b h r = reach_keeps (λ z. z < n) (λ u w _ e. inside u w e) h r
 
 module _ (out : ℕ → List ℕ) (n : ℕ) (inside : Inside n out) where
-  abbrev Falls : (s t : List ℕ) (x : State) → Type 0
-  Falls s t x = ((y : ℕ) → In y x.stack → y < n) × (length x.stack + weight out n x.disc < length s + weight out n t)
-
-  take_falls : (v : ℕ) (s t g : List ℕ) (a : Dec (In v t)) → ((y : ℕ) → In y (v ∷ s) → y < n) → Falls (v ∷ s) t (take out v s t g a)
+  take_falls : (v : ℕ) (s t g : List ℕ) (a : Dec (In v t)) → Nodes n (v ∷ s) → Falls out n inside (v ∷ s) t (take out v s t g a)
   take_falls v s t g (yes j) h = (λ y i. h y (inr i), omega arith)
   take_falls v s t g (no m) h = (
-    λ y i. ⊎_elim (λ j. fresh_nodes out n inside t v y j) (λ j. h y (inr j)) (in_cases y (fresh (v ∷ t) (out v)) s i),
-    omega (arith, length-append (fresh (v ∷ t) (out v)) s, fresh_length (v ∷ t) (out v), weight_falls out n t v (h v (inl refl)) m),
+    fresh_nodes out n inside t v s (λ y i. h y (inr i)),
+    omega (arith, fresh_length (v ∷ t) (out v) s, weight_falls out n t v (h v (inl refl)) m),
   )
 
-  gather_ends : (k : ℕ) (s t g : List ℕ) → ((y : ℕ) → In y s → y < n) → length s + weight out n t ≤ k → (gather out k s t g).stack ≡ []
-  unfolding gather
-  gather_ends zero [] t g h m = refl
-  gather_ends zero (v ∷ s) t g h m = absurd (omega arith)
-  gather_ends (suc k) [] t g h m = rest k t g
-    where
-      rest : (k : ℕ) (t g : List ℕ) → (gather out k [] t g).stack ≡ []
-      rest zero t g = refl
-      rest (suc k) t g = rest k t g
-  gather_ends (suc k) (v ∷ s) t g h m =
-      let x = pull out (v ∷ s) t g in
-      let f = take_falls v s t g (in? v t) h in
-      gather_ends k x.stack x.disc x.fin f.0 (omega (arith, f.1))
+  pull_falls : (s t g : List ℕ) → Nodes n s → (s ≡ []) ⊎ Falls out n inside s t (pull out s t g)
+  pull_falls [] t g h = inl refl
+  pull_falls (v ∷ s) t g h = inr (take_falls v s t g (in? v t) h)
+
+  gather_ends : (k : ℕ) (s t g : List ℕ) → Nodes n s → length s + weight out n t ≤ k → (gather out k s t g).stack ≡ []
+  gather_ends k s t g h m =
+      (comes_to_end (gather_machine out) Empty (pull_stays out) (λ x. Nodes n x.stack) (λ x. length x.stack + weight out n x.disc)
+      (λ x. pull_falls x.stack x.disc x.fin) k (record { stack = s; disc = t; fin = g }) h m).0
 
   abbrev Parts : (t0 : List ℕ) (x : ℕ) (s t g : List ℕ) → Type 0
   Parts t0 x s t g = Part out (λ y. In y t0) (λ y. In y t) x s g
@@ -61,16 +59,12 @@ module _ (out : ℕ → List ℕ) (n : ℕ) (inside : Inside n out) where
   take_part t0 x v s t g (yes j) p = part_skip out (λ y. In y t0) x (λ y. In y t) v s g p j
   take_part t0 x v s t g (no m) p = part_take out (λ y. In y t0) x (λ y. In y t) (λ y. In y (v ∷ t)) v s g (fresh (v ∷ t) (out v)) p m (adds t v) (pushed out t v)
 
-  pull_part : (t0 : List ℕ) (x : ℕ) (s t g : List ℕ) → Parts t0 x s t g → Parts t0 x (pull out s t g).stack (pull out s t g).disc (pull out s t g).fin
-  pull_part t0 x [] t g p = p
-  pull_part t0 x (v ∷ s) t g p = take_part t0 x v s t g (in? v t) p
-
   gathered : (k : ℕ) → fuel out n ≤ k → (x : ℕ) (t : List ℕ) → x < n → ((u w : ℕ) → In u t → In w (out u) → In w t) → let y = gather out k (x ∷ []) t [] in Parts t x [] y.disc y.fin
   unfolding fuel
   gathered k m x t lt c =
       let y = gather out k (x ∷ []) t [] in
-      let p = gather_keeps out (Parts t x) (pull_part t x) k (x ∷ []) t [] (part_start out (λ z. In z t) x c) in
-      let ends = gather_ends k (x ∷ []) t [] (λ z. ⊎_elim (λ e. subst (λ a. a < n) (sym e) lt) (λ a. absurd a)) (omega (arith, weight_most out n t)) in
+      let p = gather_keeps out (Parts t x) (take_part t x) k (x ∷ []) t [] (part_start out (λ z. In z t) x c) in
+      let ends = gather_ends k (x ∷ []) t [] (one_node lt) (omega (arith, weight_most out n t)) in
       subst (λ s. Parts t x s y.disc y.fin) ends p
 
 -- l is what is left of the nodes in the order of finishing, t is taken
@@ -94,10 +88,6 @@ module _ (out inn : ℕ → List ℕ) (n : ℕ) (inside : Inside n out) (inside'
   flop : {a b : ℕ} → Reach (Leads inn) a b → Reach (Leads out) b a
   flop r = reach_turn (λ a b e. turned.1 b a e) r
 
-  shut_reach : (t : ℕ → Type 0) → ((u w : ℕ) → t u → In w (out u) → t w) → (a b : ℕ) → t a → Reach (Leads out) a b → t b
-  shut_reach t c a b i here = i
-  shut_reach t c a b i (more {b = d} r e) = c d b (shut_reach t c a d i r) e
-
   -- what the first of the list, if not taken, is gathered with, is of its component
   one_class : (x : ℕ) (l : List ℕ) (t : ℕ → Type 0) (gs : List (List ℕ)) → Grouping out inn n (x ∷ l) t gs → (t x → ⊥) → (z : ℕ) → (t z → ⊥) → Reach (Leads out) x z → Same out x z
   one_class x l t gs h m z nz r = at (⊎_elim (λ a. absurd (nz a)) (λ a. a) (h.left z (reach_node out n inside x z (h.ahead x (inl refl)) r)))
@@ -108,14 +98,14 @@ module _ (out inn : ℕ → List ℕ) (n : ℕ) (inside : Inside n out) (inside'
           let y = late inn l h.post.1 x h.apart.0 z i (flip r) in
           let s = y.2 in
           let lt : y.0 < n = reach_node inn n inside' z y.0 (h.ahead z (inr i)) s.0 in
-          let free : t y.0 → ⊥ = λ a. nz (shut_reach t h.shut y.0 z a (flop s.0)) in
+          let free : t y.0 → ⊥ = λ a. nz (reach_keeps t h.shut a (flop s.0)) in
           let is : y.0 ≡ x = ⊎_elim (λ a. absurd (free a)) (⊎_elim (λ e. e) (λ a. absurd (y.1 a))) (h.left y.0 lt) in
           (r, flop (subst (λ a. Reach (Leads inn) a z) is s.1))
 
   pub grouping_skip : (x : ℕ) (l : List ℕ) (t : ℕ → Type 0) (gs : List (List ℕ)) → Grouping out inn n (x ∷ l) t gs → t x → Grouping out inn n l t gs
   grouping_skip x l t gs h j = record {
     shut = h.shut;
-    left = λ y lt. ⊎_elim (λ a. inl a) (⊎_elim (λ e. inl (subst t (sym e) j)) (λ a. inr a)) (h.left y lt);
+    left = λ y lt. popped t l j (h.left y lt);
     post = h.post.1;
     apart = h.apart.1;
     ahead = λ y a. h.ahead y (inr a);
@@ -135,7 +125,7 @@ module _ (out inn : ℕ → List ℕ) (n : ℕ) (inside : Inside n out) (inside'
       let into : (z : ℕ) → t' z → In z (g ++ flat gs) = λ z i. ⊎_elim (λ a. in_right z g (flat gs) (h.to z a)) (λ a. in_left z g (flat gs) a) (p.only z i) in
       record {
         shut = shut;
-        left = λ z b. ⊎_elim (λ a. inl (p.old z a)) (⊎_elim (λ e. inl (subst t' (sym e) mine)) (λ a. inr a)) (h.left z b);
+        left = λ z b. ⊎_elim (λ a. inl (p.old z a)) (⊎_map (λ e. subst t' (sym e) mine) (λ a. a)) (h.left z b);
         post = h.post.1;
         apart = h.apart.1;
         ahead = λ z a. h.ahead z (inr a);
@@ -148,7 +138,7 @@ module _ (out inn : ℕ → List ℕ) (n : ℕ) (inside : Inside n out) (inside'
             x,
             λ w a. one_class x l t gs h j w (p.new w a).1 (p.reached w a),
             λ w s. ⊎_elim
-                (λ a. absurd (j (shut_reach t h.shut w x a s.1)))
+                (λ a. absurd (j (reach_keeps t h.shut a s.1)))
                 (λ a. a)
                 (p.only w (part_all out t x t' g p w s.0)),
           ),

@@ -8,10 +8,10 @@ use Rattle.theory.specs.Listings.{Behind, Direction, Forward, Link, LinksShowAll
 use Rattle.theory.specs.PostOrder.{in?}
 use Rattle.theory.specs.Reach.{Leads, Reach, Same, here, more, sources, targets}
 use Rattle.theory.proofs.Following.{near_at, near_below}
-use Rattle.theory.proofs.Grounds.{components_of_graph, in_map, source_inside, sources_turned, target_in}
+use Rattle.theory.proofs.Grounds.{components_of_graph, source_inside, sources_turned, target_in}
 use Rattle.theory.proofs.Kept.{in_kept, kept_in}
 use Rattle.theory.proofs.Linking.{links_show_what_roots_reach}
-use Rattle.theory.proofs.Reaching.{in_cases, in_cast, in_left, in_right, reach_one, reach_trans, reach_turn, same_sym, same_trans}
+use Rattle.theory.proofs.Reaching.{in_cases, in_cast, in_left, in_map, in_right, reach_one, reach_trans, reach_turn, same_sym, same_trans}
 use Rattle.theory.proofs.Rooting.{entering, not_entered, roots_are_entries}
 
 -- how many groups stand before that of u

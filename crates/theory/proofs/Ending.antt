@@ -1,7 +1,8 @@
 -- Each turn leaves less to do, so that over a finite graph each step of a walk comes to an end, and enough turns come to the
 -- empty stack; and the room that they take.
 -- Assumes nothing.
-use Rattle.std.proofs.Common.{◌≡◌, ℕ, zero, suc, ◌+◌, ◌*◌, ◌<◌, ◌≤◌, Bool, false, List, [], ◌∷◌, length, Some, None, Option, sym, refl, ap, ◌∙◌, subst, inl, inr, ⊎_elim, arith}
+use Rattle.std.proofs.Common.{◌≡◌, ℕ, zero, suc, ◌+◌, ◌*◌, ◌<◌, ◌≤◌, Bool, false, ◌⊎◌, List, [], ◌∷◌, length, Some, None, Option, sym, refl, ap, ◌∙◌, subst, inl, inr, ⊎_elim, arith}
+use Rattle.std.proofs.lemmas.List.{length-reverse, nil_from_length}
 use Rattle.theory.specs.Edges.{In}
 use Rattle.theory.specs.Rules.{Rule, stays_at, Fair}
 use Rattle.theory.specs.Least.{Finite}
@@ -11,24 +12,15 @@ use Rattle.theory.proofs.Kept.{in_kept}
 use Rattle.theory.proofs.Asking.{freed_and_left}
 use Rattle.theory.proofs.Looking.{turn_cases}
 use Rattle.theory.proofs.Looking.Turns.{ended, saw, passed, closed}
-use Rattle.theory.proofs.Walking.{walk_keeps, in_over, sent_at, answered_at}
+use Rattle.theory.proofs.Walking.{walk_keeps, over_is, in_start, sent_at, answered_at}
 use Rattle.theory.proofs.Left.{left, left_mark, left_edges, left_twice, left_turns}
-use Rattle.theory.proofs.Running.{run_keeps}
+use Rattle.theory.proofs.Machines.{comes_to_end}
+use Rattle.theory.proofs.Running.{run_keeps, walk_machine}
 
-length_over : (xs st : List ℕ) → length (over xs st) ≡ length xs + length st
-length_over [] st = omega arith
-length_over (x ∷ xs) st = let q = length_over xs (x ∷ st) in omega arith
-
-no_length : (st : List ℕ) → length st ≤ 0 → st ≡ []
-no_length [] h = refl
-no_length (x ∷ st) h = absurd (omega arith)
+length_start : (xs : List ℕ) → length (over xs []) ≡ length xs
+length_start xs = ap length (over_is xs []) ∙ length-reverse xs
 
 module _ {E : Type 0} (lst : ℕ → List E) (far : E → ℕ) (r : Rule E) where
-  rests : (k : ℕ) (s : Place E) → s.stack ≡ [] → (run lst far r k s).stack ≡ []
-  unfolding run
-  rests zero s e = e
-  rests (suc k) s e = rests k (turn lst far r s) (ap (λ v. (look lst far r v s).stack) e ∙ e)
-
   module _ (fair : Fair r) (n : ℕ) (ends_below : (u : ℕ) (e : E) → u < n → In e (lst u) → far e < n) where
     -- the walk stays below n
     record Below (s : Place E) : Type 0 where
@@ -50,7 +42,7 @@ module _ {E : Type 0} (lst : ℕ → List E) (far : E → ℕ) (r : Rule E) wher
     below_less s x st f e b = record { stacked = λ u i. b.stacked u (subst (In u) (sym e) (inr i)); held_ends = b.held_ends }
 
     below_start : (initials : List ℕ) → ((i : ℕ) → In i initials → i < n) → Below (start initials)
-    below_start initials b = record { stacked = λ u i. ⊎_elim (b u) (λ j. absurd j) (in_over initials [] u i); held_ends = λ e i. absurd i }
+    below_start initials b = record { stacked = λ u i. b u (in_start initials u i); held_ends = λ e i. absurd i }
 
     -- what a new node adds: its edges are on the stack and held at most, and what it let out moved from there to the stack
     record Grows (s : Place E) (x : ℕ) : Type 0 where
@@ -79,23 +71,20 @@ module _ {E : Type 0} (lst : ℕ → List E) (far : E → ℕ) (r : Rule E) wher
     effort_less : (s : Place E) (x : ℕ) (st : List ℕ) (f : ℕ → Bool) → s.stack ≡ x ∷ st → effort (place st s.seen f s.held) < effort s
     effort_less s x st f e = let q = ap length e in omega arith
 
-    less_to_do : (k : ℕ) (s t : Place E) → ((u : Place E) → Below u → effort u ≤ k → (run lst far r k u).stack ≡ []) → turn lst far r s ≡ t → effort s ≤ suc k → Below t → effort t < effort s → (run lst far r k (turn lst far r s)).stack ≡ []
-    less_to_do k s t ih q m b l = subst (λ v. (run lst far r k v).stack ≡ []) (sym q) (ih t b (omega arith))
-
-    comes_to_end : (k : ℕ) (s : Place E) → Below s → effort s ≤ k → (run lst far r k s).stack ≡ []
-    unfolding run
-    comes_to_end zero s b m = no_length s.stack (omega arith)
-    comes_to_end (suc k) s b m =
-        elim (turn_cases lst far r s) [
-          | ended e a q ↦ rests k (turn lst far r s) (ap (λ v. v.stack) q ∙ e)
-          | saw x st e y a q ↦ less_to_do k s (found lst far r x s) (comes_to_end k) q m (below_found s x st e b) (effort_found s x st e y b)
-          | passed x st e y z a q ↦ less_to_do k s (dropped st s) (comes_to_end k) q m (below_less s x st s.done e b) (effort_less s x st s.done e)
-          | closed x st e y z a q ↦ less_to_do k s (finished x st s) (comes_to_end k) q m (below_less s x st (mark s.done x) e b) (effort_less s x st (mark s.done x) e)
-        ]
+    falls : (s : Place E) → Below s → (s.stack ≡ []) ⊎ (Below (turn lst far r s) × (effort (turn lst far r s) < effort s))
+    falls s b = elim (turn_cases lst far r s) [
+      | ended e a q ↦ inl e
+      | saw x st e y a q ↦ inr (less q (below_found s x st e b) (effort_found s x st e y b))
+      | passed x st e y z a q ↦ inr (less q (below_less s x st s.done e b) (effort_less s x st s.done e))
+      | closed x st e y z a q ↦ inr (less q (below_less s x st (mark s.done x) e b) (effort_less s x st (mark s.done x) e))
+    ]
+      where
+        less : {t : Place E} → turn lst far r s ≡ t → Below t → effort t < effort s → Below (turn lst far r s) × (effort (turn lst far r s) < effort s)
+        less q c l = subst (λ v. Below v × (effort v < effort s)) (sym q) (c, l)
 
     -- with so much to do a step comes to an end
     ends_step : (k : ℕ) (s : Place E) → Below s → effort s ≤ k → (a : Option ℕ) × (t : Place E) × Step lst far r a t s
-    ends_step zero s b m = (None, s, ends (no_length s.stack (omega arith)) refl refl)
+    ends_step zero s b m = (None, s, ends (nil_from_length s.stack (omega arith)) refl refl)
     ends_step (suc k) s b m =
         elim (turn_cases lst far r s) [
           | ended e _ _ ↦ (None, s, ends e refl refl)
@@ -155,9 +144,10 @@ module _ {E : Type 0} (lst : ℕ → List E) (far : E → ℕ) (r : Rule E) wher
   module _ (fair : Fair r) (initials : List ℕ) (n : ℕ) (fin : Finite lst far initials n) where
     pub run_ends : (k : ℕ) → enough lst initials n ≤ k → (run lst far r k (start initials)).stack ≡ []
     run_ends k m =
-        let a = length_over initials [] in
+        let a = length_start initials in
         let b = left_turns lst n in
-        comes_to_end fair n fin.ends k (start initials) (below_start fair n fin.ends initials fin.starts) (omega arith)
+        (comes_to_end (walk_machine lst far r) (λ s. s.stack ≡ []) (λ s e. ap (λ v. look lst far r v s) e) (Below fair n fin.ends) (effort fair n fin.ends)
+        (falls fair n fin.ends) k (start initials) (below_start fair n fin.ends initials fin.starts) (omega arith)).0
 
     pub step_exists : (xs : List ℕ) (s : Place E) → Walks lst far r (start initials) xs s → (a : Option ℕ) × (t : Place E) × Step lst far r a t s
     step_exists xs s w =
@@ -166,7 +156,7 @@ module _ {E : Type 0} (lst : ℕ → List E) (far : E → ℕ) (r : Rule E) wher
 
     pub run_fits : (k : ℕ) → (length (run lst far r k (start initials)).stack ≤ length initials + 2 * edges lst n) × (length (run lst far r k (start initials)).held ≤ edges lst n)
     run_fits k =
-        let a = length_over initials [] in
+        let a = length_start initials in
         let b = left_twice lst n in
         let c = left_edges lst n in
         let f = run_keeps_fits fair n fin.ends (length initials + 2 * edges lst n) (edges lst n) k (start initials) (record {

@@ -1,8 +1,9 @@
 -- The gathering of one component: what holds between its turns, that each turn keeps it, and what it gives at the end. Assumes nothing.
 use Rattle.std.proofs.Common.{ℕ, ◌⊎◌, List, [], ◌∷◌, ◌++◌, reverse, sym, refl, subst, inl, inr, ⊎_elim}
+use Rattle.std.proofs.Math.Logic.{⊎_map}
 use Rattle.theory.specs.Edges.{In, Distinct}
-use Rattle.theory.specs.Reach.{Leads, Reach, here, more}
-use Rattle.theory.proofs.Reaching.{in_cases, in_left, in_reverse, in_right, reach_eq, reverse_distinct, reverse_in}
+use Rattle.theory.specs.Reach.{Leads, Reach, more}
+use Rattle.theory.proofs.Reaching.{in_cases, in_left, in_reverse, in_right, popped, reach_eq, reach_keeps, reverse_distinct, reverse_in}
 use Rattle.theory.proofs.PostWalking.{Adds, Pushed}
 
 -- t0 was taken before, x is where it began, g is the group so far
@@ -36,8 +37,8 @@ module _ (out : ℕ → List ℕ) (t0 : ℕ → Type 0) (x : ℕ) where
     only = p.only;
     reached = p.reached;
     aimed = λ y i. p.aimed y (inr i);
-    shut = λ u w k e. ⊎_elim (λ a. inl a) (⊎_elim (λ i. inl (subst t (sym i) h)) (λ i. inr i)) (p.shut u w k e);
-    begun = ⊎_elim (λ a. inl a) (⊎_elim (λ i. inl (subst t (sym i) h)) (λ i. inr i)) p.begun;
+    shut = λ u w k e. popped t s h (p.shut u w k e);
+    begun = popped t s h p.begun;
     once = p.once;
   }
 
@@ -49,19 +50,19 @@ module _ (out : ℕ → List ℕ) (t0 : ℕ → Type 0) (x : ℕ) where
         new = λ y. ⊎_elim
             (λ e. (subst t' (sym e) a.new, λ h. n (p.old v (subst t0 e h))))
             (λ i. (a.keep y (p.new y i).0, (p.new y i).1));
-        only = λ y h. ⊎_elim (λ k. ⊎_elim (λ o. inl o) (λ i. inr (inr i)) (p.only y k)) (λ e. inr (inl e)) (a.only y h);
+        only = λ y h. ⊎_elim (λ k. ⊎_map (λ o. o) (λ i. inr i) (p.only y k)) (λ e. inr (inl e)) (a.only y h);
         reached = λ y. ⊎_elim (λ e. subst (Reach (Leads out) x) (sym e) at) (p.reached y);
         aimed = λ y i. ⊎_elim (λ j. more at (u.target y j)) (λ j. p.aimed y (inr j)) (in_cases y l s i);
         shut = λ b w h e. ⊎_elim
             (λ k. ⊎_elim
             (λ m. inl (a.keep w m))
-            (⊎_elim (λ i. inl (subst t' (sym i) a.new)) (λ i. inr (in_right w l s i)))
+            (⊎_map (λ i. subst t' (sym i) a.new) (λ i. in_right w l s i))
             (p.shut b w k e))
-            (λ i. ⊎_elim (λ m. inl m) (λ j. inr (in_left w l s j)) (u.all w (subst (λ z. In w (out z)) i e)))
+            (λ i. ⊎_map (λ m. m) (λ j. in_left w l s j) (u.all w (subst (λ z. In w (out z)) i e)))
             (a.only b h);
         begun = ⊎_elim
             (λ k. inl (a.keep x k))
-            (⊎_elim (λ e. inl (subst t' (sym e) a.new)) (λ i. inr (in_right x l s i)))
+            (⊎_map (λ e. subst t' (sym e) a.new) (λ i. in_right x l s i))
             p.begun;
         once = (λ i. n (p.new v i).0, p.once);
       }
@@ -71,15 +72,14 @@ module _ (out : ℕ → List ℕ) (t0 : ℕ → Type 0) (x : ℕ) where
   part_shut t g p u w h e = ⊎_elim (λ a. a) (λ z. absurd z) (p.shut u w h e)
 
   pub part_all : (t : ℕ → Type 0) (g : List ℕ) → Part out t0 t x [] g → (w : ℕ) → Reach (Leads out) x w → t w
-  part_all t g p w here = ⊎_elim (λ a. a) (λ z. absurd z) p.begun
-  part_all t g p w (more {b = b} r e) = part_shut t g p b w (part_all t g p b r) e
+  part_all t g p w r = reach_keeps t (part_shut t g p) (⊎_elim (λ a. a) (λ z. absurd z) p.begun) r
 
   -- the order in the group is no matter
   pub part_reverse : (t : ℕ → Type 0) (g : List ℕ) → Part out t0 t x [] g → Part out t0 t x [] (reverse g)
   part_reverse t g p = record {
     old = p.old;
     new = λ y i. p.new y (reverse_in g y i);
-    only = λ y h. ⊎_elim (λ o. inl o) (λ i. inr (in_reverse g y i)) (p.only y h);
+    only = λ y h. ⊎_map (λ o. o) (λ i. in_reverse g y i) (p.only y h);
     reached = λ y i. p.reached y (reverse_in g y i);
     aimed = p.aimed;
     shut = p.shut;

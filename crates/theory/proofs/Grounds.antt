@@ -1,22 +1,12 @@
 -- What a sound graph with tied incoming lists gives the walks: far ends below the count, and incoming lists that are the outgoing ones turned.
 -- So its groups are its components. Assumes nothing.
-use Rattle.std.proofs.Common.{◌≡◌, ℕ, ◌<◌, Bool, List, [], ◌∷◌, map, sym, refl, ap, subst, inl, inr}
+use Rattle.std.proofs.Common.{ℕ, ◌<◌, Bool, List, sym, subst}
 use Rattle.theory.specs.Components.{GroupsAreComponents}
 use Rattle.theory.specs.Edges.{Edge, In}
 use Rattle.theory.specs.Graphs.{Sound, Tied}
 use Rattle.theory.specs.Reach.{Inside, Turned, sources, targets}
 use Rattle.theory.proofs.Collecting.{groups_are_components}
-
-module _ {X Y : Type 0} (f : X → Y) where
-  pub map_in : (l : List X) (x : X) → In x l → In (f x) (map f l)
-  map_in [] x i = absurd i
-  map_in (y ∷ l) x (inl e) = inl (ap f e)
-  map_in (y ∷ l) x (inr i) = inr (map_in l x i)
-
-  pub in_map : (l : List X) (y : Y) → In y (map f l) → (x : X) × In x l × (f x ≡ y)
-  in_map [] y i = absurd i
-  in_map (x ∷ l) y (inl e) = (x, inl refl, sym e)
-  in_map (x ∷ l) y (inr i) = let r = in_map l y i in (r.0, inr r.1, r.2)
+use Rattle.theory.proofs.Reaching.{in_map, map_in}
 
 module _ {W : Type 0} {node : ℕ → Bool} {bound edges : ℕ} {outs : ℕ → List (Edge W)} (s : Sound node bound edges outs) where
   pub target_in : (u : ℕ) (e : Edge W) → In e (outs u) → In e.target (targets outs u)

@@ -1,3 +1,4 @@
+pub mod Machines
 pub mod Kept
 pub mod Turning
 pub mod Cursors

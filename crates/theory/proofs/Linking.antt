@@ -1,17 +1,21 @@
 -- The walk that shows edges: what each of its steps keeps, and that it shows just the inside edges behind a root, each once. Assumes nothing.
-use Rattle.std.proofs.Common.{◌≡◌, ℕ, zero, suc, ◌+◌, ◌<◌, ◌≤◌, Bool, ◌⊎◌, List, [], ◌∷◌, reverse, length, sym, refl, subst, inl, inr, ⊎_elim, arith}
+use Rattle.std.proofs.Common.{◌≡◌, ℕ, ◌+◌, ◌<◌, ◌≤◌, Bool, ◌⊎◌, List, [], ◌∷◌, reverse, length, sym, refl, subst, inl, inr, ⊎_elim, arith}
+use Rattle.std.proofs.Math.Logic.{⊎_map}
 use mathlib.Core.List.{reverse_aux}
+use Rattle.std.proofs.Math.ListN.{length-reverse_aux}
 use Rattle.theory.specs.Edges.{Edge, In, Once, within, Distinct}
 use Rattle.theory.specs.Graphs.{Sound, Tied}
-use Rattle.theory.specs.Listings.{Behind, Direction, Link, LinksShowWhatRootsReach, Shows, begin, far, followed, inside, linking, links, meet, near, roots, shows}
+use Rattle.theory.specs.Listings.{Behind, Direction, LinksShowWhatRootsReach, Linking, Shows, begin, far, followed, inside, linking, links, meet, near, roots, show, shows}
 use Rattle.theory.specs.PostOrder.{in?, weight}
-use Rattle.theory.specs.Reach.{Reach, here, more}
+use Rattle.theory.specs.Reach.{here, more}
 use Rattle.theory.proofs.Following.{far_below, listed_once, near_at, one_number}
 use Rattle.theory.proofs.Kept.{in_kept, once_kept}
 use Rattle.theory.proofs.Pushing.{adds, weight_falls}
-use Rattle.theory.proofs.Reaching.{in_cast, in_reverse, pushed_distinct, pushed_in, pushed_left, pushed_right, reverse_distinct, reverse_in}
+use Rattle.theory.proofs.Reaching.{in_cast, in_reverse, pushed_distinct, pushed_in, pushed_left, pushed_right, reach_keeps, reverse_distinct, reverse_in}
 use Rattle.theory.proofs.Rooting.{roots_are_entries}
 use Rattle.theory.proofs.PostWalking.{Adds}
+use Rattle.theory.proofs.Machines.{comes_to_end}
+use Rattle.theory.proofs.Steps.{show_stays, shows_machine}
 
 -- each item stands once, under the node that it is at, and leads to a node below n
 pub record Lists {X : Type 0} (lst : ℕ → List X) (at to : X → ℕ) (n : ℕ) : Type 0 where
@@ -25,10 +29,6 @@ pub record Complete {X : Type 0} (lst : ℕ → List X) (at to : X → ℕ) (rs 
   pub inside : (e : X) → In e h → In e (lst (at e))
   pub behind : (e : X) → In e h → Behind lst to rs (at e)
   pub all : (u : ℕ) (e : X) → In e (lst u) → Behind lst to rs u → In e h
-
-pub pushed_length : {X : Type 0} (l s : List X) → length (reverse_aux l s) ≡ length l + length s
-pushed_length [] s = omega arith
-pushed_length (e ∷ l) s = omega (arith, pushed_length l (e ∷ s))
 
 -- s is stacked, h is shown, d is met
 pub record Linked {X : Type 0} (lst : ℕ → List X) (at to : X → ℕ) (rs : List ℕ) (s : List X) (d : ℕ → Type 0) (h : List X) : Type 0 where
@@ -72,7 +72,7 @@ module _ {X : Type 0} (lst : ℕ → List X) (at to : X → ℕ) (n : ℕ) (ls :
             (pushed_in (lst u) s x i);
         told = λ x i. ((g.told x i).0, a.keep (at x) (g.told x i).1);
         all = λ v x i j. ⊎_elim
-            (λ k. ⊎_elim (λ c. inl (pushed_right (lst u) s x c)) (λ c. inr c) (g.all v x k j))
+            (λ k. ⊎_map (λ c. pushed_right (lst u) s x c) (λ c. c) (g.all v x k j))
             (λ q. inl (pushed_left (lst u) s x (subst (λ z. In x (lst z)) q j)))
             (a.only v i);
         single = pushed_distinct (lst u) s (ls.once u) g.single (λ x k c. off x k (g.stacked x c).1);
@@ -87,7 +87,7 @@ module _ {X : Type 0} (lst : ℕ → List X) (at to : X → ℕ) (n : ℕ) (ls :
 
   meet_falls : (u : ℕ) (s : List X) (d : List ℕ) (h : List X) (c : Dec (In u d)) → u < n → let x = meet lst u s d h c in length x.stack + weight lst n x.met ≤ length s + weight lst n d
   meet_falls u s d h (yes i) lt = omega arith
-  meet_falls u s d h (no m) lt = omega (arith, pushed_length (lst u) s, weight_falls lst n d u lt m)
+  meet_falls u s d h (no m) lt = omega (arith, length-reverse_aux (lst u) s, weight_falls lst n d u lt m)
 
   -- to ends of what is shown are met
   abbrev Ahead : (d : List ℕ) (h : List X) → Type 0
@@ -114,25 +114,22 @@ module _ {X : Type 0} (lst : ℕ → List X) (at to : X → ℕ) (n : ℕ) (ls :
     once = g.once;
     inside = λ e i. (g.told e i).0;
     behind = λ e i. g.sound (at e) (g.told e i).1;
-    all = λ u e i b. ⊎_elim (λ z. absurd z) (λ c. c) (g.all u e (arrive b.0 (r b.0 b.1) u b.2) i);
+    all = λ u e i b. seen u e (reach_keeps d (λ v w j l. subst d l.2 (a l.0 (seen v l.0 j l.1))) (r b.0 b.1) b.2) i;
   }
     where
-      arrive : (x : ℕ) → d x → (u : ℕ) → Reach (Link lst to) x u → d u
-      arrive x i u here = i
-      arrive x i u (more {b = v} q l) =
-          subst d l.2 (a l.0 (⊎_elim (λ z. absurd z) (λ c. c) (g.all v l.0 (arrive x i v q) l.1)))
+      seen : (u : ℕ) (e : X) → d u → In e (lst u) → In e h
+      seen u e i j = ⊎_elim (λ z. absurd z) (λ c. c) (g.all u e i j)
 
-  idle : (k : ℕ) (d : List ℕ) (h : List X) → (shows lst to k [] d h).shown ≡ h
-  unfolding shows
-  idle zero d h = refl
-  idle (suc k) d h = idle k d h
+  -- between two turns, with every root met
+  abbrev Shown : Linking X → Type 0
+  Shown x = Linked lst at to rs x.stack (λ v. In v x.met) x.shown × Ahead x.met x.shown × ((r : ℕ) → In r rs → In r x.met)
 
-  shown : (k : ℕ) (s : List X) (d : List ℕ) (h : List X) → Linked lst at to rs s (λ v. In v d) h → Ahead d h → ((r : ℕ) → In r rs → In r d) → length s + weight lst n d ≤ k → Complete lst at to rs (shows lst to k s d h).shown
-  unfolding shows
-  shown zero (e ∷ s) d h g a r m = absurd (omega arith)
-  shown zero [] d h g a r m = all_shown (λ v. In v d) h g a r
-  shown (suc k) [] d h g a r m = subst (Complete lst at to rs) (sym (idle k d h)) (all_shown (λ v. In v d) h g a r)
-  shown (suc k) (e ∷ s) d h g a r m =
+  abbrev size : Linking X → ℕ
+  size x = length x.stack + weight lst n x.met
+
+  show_keeps : (s : List X) (d : List ℕ) (h : List X) → Shown (record { stack = s; met = d; shown = h }) → (s ≡ []) ⊎ (Shown (show lst to s d h) × (size (show lst to s d h) < length s + weight lst n d))
+  show_keeps [] d h g = inl refl
+  show_keeps (e ∷ s) d h (g, a, r) =
       let u = to e in
       let c = in? u d in
       let x = meet lst u s d (e ∷ h) c in
@@ -140,11 +137,20 @@ module _ {X : Type 0} (lst : ℕ → List X) (at to : X → ℕ) (n : ℕ) (ls :
       let b : Behind lst to rs u = let y = g.sound (at e) from.1 in (y.0, y.1, more y.2 (e, from.0, refl)) in
       let o = meet_in lst u s d (e ∷ h) c in
       let f = meet_falls u s d (e ∷ h) c (ls.nodes (at e) e from.0) in
-      shown k x.stack x.met x.shown
-      (linked_meet u s d (e ∷ h) c (linked_pop e s (λ v. In v d) h g) b)
-      (subst (Ahead x.met) (sym (meet_shown lst u s d (e ∷ h) c)) (λ y. ⊎_elim (λ q. subst (λ z. In (to z) x.met) (sym q) o.0) (λ i. o.1 (to y) (a y i))))
-      (λ q i. o.1 q (r q i))
-      (omega arith)
+      inr (
+        (
+          linked_meet u s d (e ∷ h) c (linked_pop e s (λ v. In v d) h g) b,
+          subst (Ahead x.met) (sym (meet_shown lst u s d (e ∷ h) c)) (λ y. ⊎_elim (λ q. subst (λ z. In (to z) x.met) (sym q) o.0) (λ i. o.1 (to y) (a y i))),
+          λ q i. o.1 q (r q i),
+        ),
+        omega arith,
+      )
+
+  shown : (k : ℕ) (x : Linking X) → Shown x → size x ≤ k → Complete lst at to rs (shows lst to k x.stack x.met x.shown).shown
+  shown k x g m =
+      let y = shows lst to k x.stack x.met x.shown in
+      let e = comes_to_end (shows_machine lst to) (λ z. z.stack ≡ []) (show_stays lst to) Shown size (λ z. show_keeps z.stack z.met z.shown) k x g m in
+      all_shown (λ v. In v y.met) y.shown (subst (λ s. Linked lst at to rs s (λ v. In v y.met) y.shown) e.0 e.1.0) e.1.1 e.1.2
 
 module _ {X : Type 0} (lst : ℕ → List X) (at to : X → ℕ) (n : ℕ) (ls : Lists lst at to n) (rs : List ℕ) where
   pub walk_shows : ((r : ℕ) → In r rs → r < n) → let x = begin lst rs [] [] in Complete lst at to rs (shows lst to (weight lst n []) x.stack x.met []).shown
@@ -160,7 +166,7 @@ module _ {X : Type 0} (lst : ℕ → List X) (at to : X → ℕ) (n : ℕ) (ls :
         sound = λ u z. absurd z;
       } in
       let b = begun lst at to n ls rs rs [] [] (λ r i. i) lt none in
-      shown lst at to n ls rs (weight lst n []) x.stack x.met [] b.0 (λ e z. absurd z) (λ r i. b.1 r (inr i)) (omega (arith, b.2))
+      shown lst at to n ls rs (weight lst n []) (record { stack = x.stack; met = x.met; shown = [] }) (b.0, (λ e z. absurd z), λ r i. b.1 r (inr i)) (omega (arith, b.2))
 
 -- a list of edges with no number twice is distinct, and of a graph's edges the other way round
 once_distinct : {W : Type 0} (es : List (Edge W)) → Once es → Distinct es

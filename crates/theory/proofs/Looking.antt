@@ -1,6 +1,6 @@
 -- One look at the top of the stack, case by case. Assumes nothing.
-use Rattle.std.proofs.Common.{◌≡◌, ℕ, true, false, cond, List, [], ◌∷◌, Some, None, Option, refl, ap, ◌∙◌, inl, inr}
-use Rattle.std.proofs.lemmas.Bool.{cases_Bool, cond-true, cond-false}
+use Rattle.std.proofs.Common.{◌≡◌, ℕ, true, false, List, [], ◌∷◌, Some, None, Option, refl, ap, inl, inr}
+use Rattle.std.proofs.lemmas.Bool.{cases_Bool}
 use Rattle.theory.specs.Rules.{Rule}
 use Rattle.theory.specs.Walk.{Place, found, dropped, finished, look, turn, did_at, did}
 
@@ -13,26 +13,14 @@ module _ {E : Type 0} (lst : ℕ → List E) (far : E → ℕ) (r : Rule E) wher
     closed : (x : ℕ) (st : List ℕ) → s.stack ≡ x ∷ st → s.seen x ≡ true → s.done x ≡ false → a ≡ Some x → t ≡ finished x st s → Turns s a t
 
   module _ (s : Place E) (x : ℕ) (st : List ℕ) (e : s.stack ≡ x ∷ st) where
-    turn_top : turn lst far r s ≡ cond (s.seen x) (cond (s.done x) (dropped st s) (finished x st s)) (found lst far r x s)
-    turn_top = ap (λ v. look lst far r v s) e
-
-    did_top : did s ≡ cond (s.seen x) (cond (s.done x) None (Some x)) None
-    did_top = ap (λ v. did_at v s) e
-
     pub turn_saw : s.seen x ≡ false → (did s ≡ None) × (turn lst far r s ≡ found lst far r x s)
-    turn_saw y = (did_top ∙ cond-false (s.seen x) _ _ y, turn_top ∙ cond-false (s.seen x) _ _ y)
+    turn_saw y = (rw (e, y), rw (e, y))
 
     pub turn_passed : s.seen x ≡ true → s.done x ≡ true → (did s ≡ None) × (turn lst far r s ≡ dropped st s)
-    turn_passed y z = (
-      did_top ∙ cond-true (s.seen x) _ _ y ∙ cond-true (s.done x) _ _ z,
-      turn_top ∙ cond-true (s.seen x) _ _ y ∙ cond-true (s.done x) _ _ z,
-    )
+    turn_passed y z = (rw (e, y, z), rw (e, y, z))
 
     pub turn_closed : s.seen x ≡ true → s.done x ≡ false → (did s ≡ Some x) × (turn lst far r s ≡ finished x st s)
-    turn_closed y z = (
-      did_top ∙ cond-true (s.seen x) _ _ y ∙ cond-false (s.done x) _ _ z,
-      turn_top ∙ cond-true (s.seen x) _ _ y ∙ cond-false (s.done x) _ _ z,
-    )
+    turn_closed y z = (rw (e, y, z), rw (e, y, z))
 
   pub turn_cases : (s : Place E) → Turns s (did s) (turn lst far r s)
   turn_cases s = at s.stack refl

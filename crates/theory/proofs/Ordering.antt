@@ -1,7 +1,7 @@
 -- Edges run onward: through the components, through post-order, and through what a filter leaves of the order. Assumes nothing.
 use Rattle.std.proofs.Common.{◌≡◌, ℕ, Bool, true, ◌⊎◌, List, [], ◌∷◌, ◌++◌, reverse, filter, sym, ap, ◌∙◌, subst, inl, inr, ⊎_elim}
 use mathlib.Core.List.{reverse_aux}
-use Rattle.std.proofs.lemmas.Bool.{cond_both, cond-true, and_parts}
+use Rattle.std.proofs.lemmas.Bool.{cond_both, and_parts}
 use Rattle.theory.specs.Components.{Classes, Components, EdgesRunOnward, Onward, components, flat}
 use Rattle.theory.specs.Edges.{Edge, In, within, Distinct}
 use Rattle.theory.specs.Graphs.{Sound, Tied}
@@ -9,7 +9,7 @@ use Rattle.theory.specs.Listings.{Direction, Forward, Order, OrderRunsOnward, Re
 use Rattle.theory.specs.PostOrder.{Before, PostOrderSorts}
 use Rattle.theory.specs.Reach.{Same, sources, targets}
 use Rattle.theory.proofs.Grounds.{components_of_graph, source_inside, target_in}
-use Rattle.theory.proofs.Kept.{in_kept, kept_in}
+use Rattle.theory.proofs.Kept.{filter_keeps, in_kept, kept_in}
 use Rattle.theory.proofs.Reaching.{in_cases, in_cast, in_reverse, in_right, reach_one, reverse_distinct, reverse_in, same_sym, same_trans}
 
 before_in : (u w : ℕ) (l : List ℕ) → Before u w l → In u l × In w l
@@ -81,16 +81,12 @@ before_turned u w (x ∷ l) s (inr b) = before_turned u w l (x ∷ s) b
 kept_before : (p : ℕ → Bool) (u w : ℕ) (l : List ℕ) → p u ≡ true → p w ≡ true → Before u w l → Before u w (filter p l)
 kept_before p u w [] h k b = absurd b
 kept_before p u w (x ∷ l) h k (inl q) =
-    rw (cond-true (p x) (x ∷ filter p l) (filter p l) (ap p (sym q.0) ∙ h)) (inl (q.0, kept_in p l w q.1 k))
+    rw (ap p (sym q.0) ∙ h) (inl (q.0, kept_in p l w q.1 k))
 kept_before p u w (x ∷ l) h k (inr b) =
     cond_both (p x) (x ∷ filter p l) (filter p l) (λ zs. Before u w zs) (λ _. inr (kept_before p u w l h k b)) (λ _. kept_before p u w l h k b)
 
 kept_distinct : {X : Type 0} (p : X → Bool) (l : List X) → Distinct l → Distinct (filter p l)
-kept_distinct p [] o = tt
-kept_distinct p (x ∷ l) o =
-    cond_both (p x) (x ∷ filter p l) (filter p l) (λ zs. Distinct zs)
-    (λ _. (λ i. o.0 (in_kept p l x i).0, kept_distinct p l o.1))
-    (λ _. kept_distinct p l o.1)
+kept_distinct p = filter_keeps Distinct p tt (λ x l o. o.1) (λ x l m o sub k. (λ i. o.0 (sub x i), k))
 
 module _ (W : Type 0) (node : ℕ → Bool) (bound edges : ℕ) (outs ins : ℕ → List (Edge W)) (s : Sound node bound edges outs) (t : Tied outs ins) (p : ℕ → Bool) where
   abbrev all_nodes : List ℕ

@@ -1,21 +1,18 @@
 -- By the rule that all edges pass the walk is the post-order walk over lists of far ends, turn for turn. Assumes nothing.
-use Rattle.std.proofs.Common.{◌≡◌, ℕ, zero, suc, Bool, false, cond, eqb, List, [], ◌∷◌, ◌++◌, map, filter, sym, refl, ap, ◌∙◌, inl, inr, ⊎_elim, append_assoc}
-use Rattle.std.proofs.lemmas.Bool.{cases_Bool, or_left}
+use Rattle.std.proofs.Common.{◌≡◌, ℕ, zero, suc, Bool, false, eqb, List, [], ◌∷◌, ◌++◌, map, sym, refl, ap, ◌∙◌, inl, inr, ⊎_elim, append_assoc}
+use Rattle.std.proofs.lemmas.Bool.{false_from_ne_true, or_left}
 use Rattle.theory.specs.Edges.{In}
 use Rattle.theory.specs.Rules.{every}
 use Rattle.theory.specs.Walk.{Place, place, mark, send, sends, asks, found, after, turn, did, run, order}
 use Rattle.theory.specs.PostOrder.{in?, unless, fresh, visit, step}
 use Rattle.theory.specs.PostOrder as post
 use Rattle.theory.specs.AllPass.{Alike, Agrees}
+use Rattle.theory.proofs.Kept.{kept_none}
 use Rattle.theory.proofs.Walking.{mark_own, mark_cases}
-
-none_kept : {X : Type 0} (xs : List X) → filter (λ _. false) xs ≡ []
-none_kept [] = refl
-none_kept (x ∷ xs) = none_kept xs
 
 -- what is not in the list is not in the set
 out_of : (a : ℕ → Bool) (l : List ℕ) (x : ℕ) → Alike a l → (In x l → ⊥) → a x ≡ false
-out_of a l x h n = ⊎_elim (λ t. absurd (n ((h x).0 t))) (λ f. f) (cases_Bool (a x))
+out_of a l x h n = false_from_ne_true (a x) (λ t. n ((h x).0 t))
 
 alike_mark : (a : ℕ → Bool) (l : List ℕ) (x : ℕ) → Alike a l → Alike (mark a x) (x ∷ l)
 alike_mark a l x h n = (
@@ -25,8 +22,8 @@ alike_mark a l x h n = (
 
 module _ {E : Type 0} (lst : ℕ → List E) (far : E → ℕ) where
   send_unless : (a : ℕ → Bool) (l : List ℕ) (e : E) (st : List ℕ) → Alike a l → (c : Dec (In (far e) l)) → send far a e st ≡ unless c (far e) ++ st
-  send_unless a l e st h (yes i) = ap (λ b. cond b st (far e ∷ st)) ((h (far e)).1 i)
-  send_unless a l e st h (no n) = ap (λ b. cond b st (far e ∷ st)) (out_of a l (far e) h n)
+  send_unless a l e st h (yes i) = rw ((h (far e)).1 i)
+  send_unless a l e st h (no n) = rw (out_of a l (far e) h n)
 
   -- asking about the edges one by one puts what is fresh on top
   asks_fresh : (a : ℕ → Bool) (l : List ℕ) (es : List E) (st : List ℕ) (held : List E) → Alike a l → (asks far every a es st held).stack ≡ fresh l (map far es) ++ st
@@ -40,7 +37,7 @@ module _ {E : Type 0} (lst : ℕ → List E) (far : E → ℕ) where
   found_fresh : (x : ℕ) (s : Place E) (d : List ℕ) → Alike s.seen d → (found lst far every x s).stack ≡ fresh (x ∷ d) (map far (lst x)) ++ s.stack
   found_fresh x s d h =
       asks_fresh (mark s.seen x) (x ∷ d) (lst x) _ _ (alike_mark s.seen d x h)
-      ∙ ap (λ es. fresh (x ∷ d) (map far (lst x)) ++ sends far (mark s.seen x) es s.stack) (none_kept s.held)
+      ∙ ap (λ es. fresh (x ∷ d) (map far (lst x)) ++ sends far (mark s.seen x) es s.stack) (kept_none (λ _. false) s.held (λ _ _. refl))
 
   -- one turn
   turn_agrees : (st : List ℕ) (a b : ℕ → Bool) (held : List E) (d f : List ℕ) → Alike a d → Alike b f → let s = place st a b held in Agrees (turn lst far every s) (after (did s) f) (step (λ u. map far (lst u)) st d f)

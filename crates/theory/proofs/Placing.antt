@@ -1,13 +1,27 @@
 -- Where a pair stands among listed ones, and what a list that grows by one keeps. Assumes nothing.
-use Rattle.std.proofs.Common.{◌≡◌, ℕ, zero, suc, ◌+◌, ◌<◌, Bool, true, false, cond, eqb, List, [], ◌∷◌, ◌++◌, length, Some, None, Option, sym, refl, ap, ◌∙◌, inl, inr, add-one, arith, length-append}
+use Rattle.std.proofs.Common.{◌≡◌, ℕ, zero, suc, ◌+◌, ◌<◌, ◌≤◌, Bool, true, false, cond, not, eqb, ltb, List, [], ◌∷◌, ◌++◌, map, get_or, length, Some, None, Option, sym, refl, ap, ap₂, ◌∙◌, inl, inr, add-one, one-add, arith}
 use Rattle.std.specs.Option.{option_map}
-use Rattle.std.specs.List.{slice_get}
-use Rattle.std.proofs.lemmas.Bool.{cond-true, cond-false, ne_eqb, eq-eqb, cases_lt}
+use Rattle.std.specs.List.{position, position_or_len, range_with_len, slice_get}
+use Rattle.std.proofs.lemmas.List.FromFn.{get_or-map-range_with_len, length-map-range_with_len, map-range_with_len_more}
+use Rattle.std.proofs.lemmas.List.Sums.{fails_before_first, position_or_len_is}
+use Rattle.std.proofs.lemmas.Option.{slice_get_read}
+use Rattle.std.proofs.lemmas.Bool.{cond_above, cond_below, eqb-false, ne_eqb, eq-eqb, cases_lt, lt-ltb, le-ltb}
 use Rattle.theory.specs.Pairs.{Pair, listed, place}
 
+-- std's list of a function of the index
+listed_is : {X : Type 0} (at : ℕ → X) (k : ℕ) → listed at k ≡ map at (range_with_len 0 k)
+listed_is at zero = refl
+listed_is at (suc k) =
+    ap (λ xs. xs ++ at k ∷ []) (listed_is at k) ∙ sym (map-range_with_len_more at 0 k k (omega arith)) ∙ ap (λ n. map at (range_with_len 0 n)) (add-one k)
+
 pub length-listed : {X : Type 0} (at : ℕ → X) (k : ℕ) → length (listed at k) ≡ k
-length-listed at zero = refl
-length-listed at (suc k) = length-append (listed at k) (at k ∷ []) ∙ ap (λ n. n + 1) (length-listed at k) ∙ add-one k
+length-listed at k = ap length (listed_is at k) ∙ length-map-range_with_len at 0 k
+
+get_listed : {X : Type 0} (at : ℕ → X) (k i : ℕ) (d : X) → i < k → get_or (listed at k) i d ≡ at i
+get_listed at k i d b = ap (λ xs. get_or xs i d) (listed_is at k) ∙ get_or-map-range_with_len at 0 k i i d b (omega arith)
+
+pub nth_listed : {X : Type 0} (at : ℕ → X) (k i : ℕ) → i < k → slice_get (listed at k) i ≡ Some (at i)
+nth_listed at k i b = slice_get_read (listed at k) k i (at i) (sym (length-listed at k)) b (sym (get_listed at k i (at i) b))
 
 pub listed_same : {X : Type 0} (at bt : ℕ → X) (k : ℕ) → ((j : ℕ) → j < k → bt j ≡ at j) → listed bt k ≡ listed at k
 listed_same at bt zero eq = refl
@@ -22,93 +36,49 @@ listed_more at bt k x eq q =
     let step : listed bt (suc k) ≡ listed at k ++ x ∷ [] = cc in
     ap (listed bt) (add-one k) ∙ step
 
-nth_front : {X : Type 0} (xs ys : List X) (i : ℕ) → i < length xs → slice_get (xs ++ ys) i ≡ slice_get xs i
-nth_front [] ys i b = absurd (omega arith)
-nth_front (x ∷ xs) ys zero b = refl
-nth_front (x ∷ xs) ys (suc i) b = nth_front xs ys i (omega arith)
+-- the place of a pair is std's position
+abbrev has : ℕ → Pair → Bool
+has p x = eqb x.package_edge p
 
-nth_last : {X : Type 0} (xs : List X) (x : X) → slice_get (xs ++ x ∷ []) (length xs) ≡ Some x
-nth_last [] x = refl
-nth_last (y ∷ xs) x = nth_last xs x
-
-pub nth_listed : {X : Type 0} (at : ℕ → X) (k i : ℕ) → i < k → slice_get (listed at k) i ≡ Some (at i)
-nth_listed at zero i b = absurd (omega arith)
-nth_listed at (suc k) i b =
-    let n = length-listed at k in
-    elim (cases_lt i k) [
-      | inl less ↦ nth_front (listed at k) (at k ∷ []) i (omega arith) ∙ nth_listed at k i less
-      | inr more ↦
-          let q : i ≡ k = omega arith in
-          ap (slice_get (listed at k ++ at k ∷ [])) (q ∙ sym n) ∙ nth_last (listed at k) (at k) ∙ ap (λ j. Some (at j)) (sym q)
+place_is : (p : ℕ) (xs : List Pair) → place p xs ≡ position (has p) xs
+place_is p [] = refl
+place_is p (x ∷ xs) = here (has p x) (place p xs) (position_or_len (has p) xs) (length xs) (place_is p xs)
+  where
+    here : (b : Bool) (o : Option ℕ) (n l : ℕ) → o ≡ cond (ltb n l) (Some n) None
+        → cond b (Some 0) (option_map suc o) ≡ cond (ltb (cond (not b) (1 + n) 0) (suc l)) (Some (cond (not b) (1 + n) 0)) None
+    here true o n l e = rw (lt-ltb 0 (suc l) (omega arith))
+    here false o n l e = ap (option_map suc) e ∙ elim (cases_lt n l) [
+      | inl less ↦ rw (lt-ltb n l less, lt-ltb (1 + n) (suc l) (omega arith), one-add n)
+      | inr more ↦ rw (le-ltb n l more, le-ltb (1 + n) (suc l) (omega arith))
     ]
 
-place_front : (p : ℕ) (xs ys : List Pair) (i : ℕ) → place p xs ≡ Some i → place p (xs ++ ys) ≡ Some i
-place_front p [] ys i h = absurd (let z : ◌≡◌ {A = ℕ} 0 1 = cc in omega arith)
-place_front p (x ∷ xs) ys i h = here (eqb x.package_edge p) (place p xs) (place p (xs ++ ys)) h (λ j. place_front p xs ys j)
-  where
-    here : (b : Bool) (o u : Option ℕ) → cond b (Some 0) (option_map suc o) ≡ Some i → ((j : ℕ) → o ≡ Some j → u ≡ Some j) → cond b (Some 0) (option_map suc u) ≡ Some i
-    here true o u q f = q
-    here false None u q f = absurd (let z : ◌≡◌ {A = ℕ} 0 1 = cc in omega arith)
-    here false (Some j) u q f = ap (option_map suc) (f j refl) ∙ q
+module _ (at : ℕ → Pair) (k p : ℕ) where
+  -- where the pairs before i have other package edges, and i is past the list or has this one, the search ends at i
+  ends_at : (i : ℕ) → i ≤ k → ((j : ℕ) → j < i → (at j).package_edge ≡ p → ⊥) → (i < k → (at i).package_edge ≡ p) → place p (listed at k) ≡ cond (ltb i k) (Some i) None
+  ends_at i b none here =
+      let n = length-listed at k in
+      let first : position_or_len (has p) (listed at k) ≡ i =
+      position_or_len_is (has p) (listed at k) i (at i) (omega arith)
+      (λ j l. ap (has p) (get_listed at k j (at i) (omega arith)) ∙ ne_eqb (at j).package_edge p (none j l))
+      (λ l. ap (has p) (get_listed at k i (at i) (omega arith)) ∙ eq-eqb (at i).package_edge p (here (omega arith))) in
+      place_is p (listed at k) ∙ ap₂ (λ x l. cond (ltb x l) (Some x) None) first n
 
-place_back : (p : ℕ) (xs ys : List Pair) → place p xs ≡ None → place p (xs ++ ys) ≡ option_map (λ j. length xs + j) (place p ys)
-place_back p [] ys h = keep (place p ys)
-  where
-    keep : (o : Option ℕ) → o ≡ option_map (λ j. 0 + j) o
-    keep None = refl
-    keep (Some j) = let q : j ≡ 0 + j = omega arith in ap Some q
-place_back p (x ∷ xs) ys h = here (eqb x.package_edge p) (place p xs) h (λ q. place_back p xs ys q)
-  where
-    more : (o : Option ℕ) → option_map suc (option_map (λ j. length xs + j) o) ≡ option_map (λ j. suc (length xs) + j) o
-    more None = refl
-    more (Some j) = let q : suc (length xs + j) ≡ suc (length xs) + j = omega arith in ap Some q
+  -- a package edge that no listed pair has is not found
+  pub place_none : ((j : ℕ) → j < k → (at j).package_edge ≡ p → ⊥) → place p (listed at k) ≡ None
+  place_none h = ends_at k (omega arith) h (λ l. absurd (omega arith)) ∙ sym (cond_above k k (Some k) None None (omega arith) refl)
 
-    here : (b : Bool) (o : Option ℕ) → cond b (Some 0) (option_map suc o) ≡ None → (o ≡ None → place p (xs ++ ys) ≡ option_map (λ j. length xs + j) (place p ys)) → cond b (Some 0) (option_map suc (place p (xs ++ ys))) ≡ option_map (λ j. suc (length xs) + j) (place p ys)
-    here true o q e = absurd (let z : ◌≡◌ {A = ℕ} 0 1 = cc in omega arith)
-    here false (Some j) q e = absurd (let z : ◌≡◌ {A = ℕ} 0 1 = cc in omega arith)
-    here false None q e = ap (option_map suc) (e refl) ∙ more (place p ys)
+  -- the first listed pair with a package edge is found at its place
+  pub place_some : (i : ℕ) → i < k → (at i).package_edge ≡ p → ((j : ℕ) → j < i → (at j).package_edge ≡ p → ⊥) → place p (listed at k) ≡ Some i
+  place_some i b q h = ends_at i (omega arith) h (λ _. q) ∙ sym (cond_below i k (Some i) None b)
 
--- a package edge that no listed pair has is not found
-pub place_none : (at : ℕ → Pair) (k p : ℕ) → ((j : ℕ) → j < k → (at j).package_edge ≡ p → ⊥) → place p (listed at k) ≡ None
-place_none at zero p h = refl
-place_none at (suc k) p h =
-    let r = place_none at k p (λ j b. h j (omega arith)) in
-    let ne = ne_eqb (at k).package_edge p (h k (omega arith)) in
-    place_back p (listed at k) (at k ∷ []) r
-    ∙ ap (option_map (λ j. length (listed at k) + j)) (cond-false (eqb (at k).package_edge p) (Some 0) (option_map suc None) ne)
-
--- the first listed pair with a package edge is found at its place
-pub place_some : (at : ℕ → Pair) (k p i : ℕ) → i < k → (at i).package_edge ≡ p → ((j : ℕ) → j < i → (at j).package_edge ≡ p → ⊥) → place p (listed at k) ≡ Some i
-place_some at zero p i b q h = absurd (omega arith)
-place_some at (suc k) p i b q h =
-    elim (cases_lt i k) [
-      | inl less ↦ place_front p (listed at k) (at k ∷ []) i (place_some at k p i less q h)
-      | inr more ↦
-          let same : i ≡ k = omega arith in
-          let r = place_none at k p (λ j less. h j (omega arith)) in
-          let yes = eq-eqb (at k).package_edge p (ap (λ j. (at j).package_edge) (sym same) ∙ q) in
-          let n = length-listed at k in
-          let end : length (listed at k) + 0 ≡ i = omega arith in
-          place_back p (listed at k) (at k ∷ []) r
-          ∙ ap (option_map (λ j. length (listed at k) + j)) (cond-true (eqb (at k).package_edge p) (Some 0) (option_map suc None) yes)
-          ∙ ap Some end
-    ]
-
--- a package edge that is not found is no listed pair's
-pub none_placed : (at : ℕ → Pair) (k p : ℕ) → place p (listed at k) ≡ None → (j : ℕ) → j < k → (at j).package_edge ≡ p → ⊥
-none_placed at zero p h j b q = absurd (omega arith)
-none_placed at (suc k) p h j b q = split (place p (listed at k)) refl (λ e less. none_placed at k p e j less q)
-  where
-    split : (o : Option ℕ) → place p (listed at k) ≡ o → (place p (listed at k) ≡ None → j < k → ⊥) → ⊥
-    split (Some i) e r = let f = place_front p (listed at k) (at k ∷ []) i e in let z : ◌≡◌ {A = ℕ} 0 1 = cc in omega arith
-    split None e r =
-        elim (cases_lt j k) [
-          | inl less ↦ r e less
-          | inr more ↦
-              let same : j ≡ k = omega arith in
-              let yes = eq-eqb (at k).package_edge p (ap (λ i. (at i).package_edge) (sym same) ∙ q) in
-              let f = place_back p (listed at k) (at k ∷ []) e in
-              let g = ap (option_map (λ i. length (listed at k) + i)) (cond-true (eqb (at k).package_edge p) (Some 0) (option_map suc None) yes) in
-              let w : Some (length (listed at k) + 0) ≡ None = sym g ∙ sym f ∙ h in
-              let z : ◌≡◌ {A = ℕ} 0 1 = cc in omega arith
-        ]
+  -- a package edge that is not found is no listed pair's
+  pub none_placed : place p (listed at k) ≡ None → (j : ℕ) → j < k → (at j).package_edge ≡ p → ⊥
+  none_placed h j b q =
+      let n = length-listed at k in
+      let m = position_or_len (has p) (listed at k) in
+      elim (cases_lt m (length (listed at k))) [
+        | inl less ↦ let found = cond_below m (length (listed at k)) (Some m) None less in let all = place_is p (listed at k) in cc
+        | inr more ↦
+            let misses = fails_before_first (has p) (listed at k) j (at j) (omega arith) in
+            eqb-false (at j).package_edge p (ap (has p) (sym (get_listed at k j (at j) b)) ∙ misses) q
+      ]

@@ -1,10 +1,11 @@
 -- A walk that ends has finished what it reaches. Assumes nothing.
 use Rattle.std.proofs.Common.{◌≡◌, ℕ, ◌⊎◌, List, [], ◌∷◌, subst, inl, inr, ⊎_elim}
+use Rattle.std.proofs.Math.Logic.{⊎_map}
 use Rattle.theory.specs.Edges.{In, Distinct}
 use Rattle.theory.specs.Listings.{inside}
-use Rattle.theory.specs.PostOrder.{Via, WalkFinishesWhatItReaches, in?, run, step}
-use Rattle.theory.specs.Reach.{Leads, Reach, here, more}
-use Rattle.theory.proofs.Reaching.{cons_nil}
+use Rattle.theory.specs.PostOrder.{Via, WalkFinishesWhatItReaches, in?, run}
+use Rattle.theory.specs.Reach.{here}
+use Rattle.theory.proofs.Reaching.{reach_keeps}
 use Rattle.theory.proofs.PostRunning.{State-keeps, run_ends, run_keeps, visit_keeps}
 use Rattle.theory.proofs.PostWalking.{Cov, Told, Walk}
 
@@ -13,7 +14,7 @@ module _ (out : ℕ → List ℕ) (old : ℕ → Type 0) where
   cov_all d k [] t = tt
   cov_all d k (g ∷ s) t = (
     t g,
-    cov_all d (λ x. k x ⊎ (x ≡ g)) s (λ x h. ⊎_elim (λ o. inl o) (λ m. inr (λ w i. inl (m w i))) (t x h)),
+    cov_all d (λ x. k x ⊎ (x ≡ g)) s (λ x h. ⊎_map (λ o. o) (λ m w i. inl (m w i)) (t x h)),
   )
 
   -- a walk with no path, from any stack
@@ -32,11 +33,7 @@ module _ (out : ℕ → List ℕ) (old : ℕ → Type 0) where
   pub walk_end : (d : ℕ → Type 0) (s f p : List ℕ) → s ≡ [] → Walk out old d s f p → (v : ℕ) → d v → In v f
   walk_end d [] f [] e w v h = ⊎_elim (λ i. i) (λ z. absurd z) (w.grey v h)
   walk_end d [] f (g ∷ p) e w v h = absurd w.lay
-  walk_end d (x ∷ s) f p e w v h = absurd (cons_nil x s e)
-
-step_keeps : (out : ℕ → List ℕ) (old : ℕ → Type 0) (s0 s d f : List ℕ) → State-keeps out old s0 s d f → State-keeps out old s0 (step out s d f).stack (step out s d f).disc (step out s d f).fin
-step_keeps out old s0 [] d f h = h
-step_keeps out old s0 (v ∷ s) d f h = visit_keeps out old s0 v s d f (in? v d) (in? v f) h
+  walk_end d (x ∷ s) f p e w v h = cc
 
 pub walk_finishes_what_it_reaches : WalkFinishesWhatItReaches
 walk_finishes_what_it_reaches out n inside s d f nodes a b o k m =
@@ -46,7 +43,7 @@ walk_finishes_what_it_reaches out n inside s d f nodes a b o k m =
       ([], walk_start out old (λ v. In v d) s f a b (λ v i. inl i) o),
       record { found = λ v i. inl (a v i); aimed = λ v i. aim v i (in? v f); kept = b; begun = λ v i. inr i },
     ) in
-    let kept = run_keeps out (State-keeps out old s) (step_keeps out old s) k s d f start in
+    let kept = run_keeps out (State-keeps out old s) (visit_keeps out old s) k s d f start in
     let ends = run_ends out n inside k s d f nodes m in
     let w = kept.0.1 in
     let same : (v : ℕ) → In v x.disc → In v x.fin = walk_end out old (λ v. In v x.disc) x.stack x.fin kept.0.0 ends w in
@@ -56,7 +53,7 @@ walk_finishes_what_it_reaches out n inside s d f nodes a b o k m =
       back = w.done;
       only = λ v i. kept.1.found v (w.done v i);
       keeps = λ v i. same v (kept.1.kept v i);
-      all = λ v h. same v (arrives x.disc (λ u j. w.told u (same u j)) h.0 (start_in h.0 (kept.1.begun h.0 h.1) ends) h.2 v h.3).0;
+      all = λ v h. same v (reach_keeps Arrives (λ u v g e. (⊎_elim (λ z. absurd (g.1 z)) (λ t. t v e.0) (w.told u (same u g.0)), e.1)) (start_in h.0 (kept.1.begun h.0 h.1) ends, h.2) h.3).0;
       once = w.once;
     }
   where
@@ -68,8 +65,5 @@ walk_finishes_what_it_reaches out n inside s d f nodes a b o k m =
     start_in r (inl i) e = i
     start_in r (inr i) e = absurd (subst (In r) e i)
 
-    arrives : (d' : List ℕ) → ((u : ℕ) → In u d' → Told out (λ u. In u f) (λ u. In u d') u) → (r : ℕ) → In r d' → (In r f → ⊥) → (v : ℕ) → Reach (λ u w. Leads out u w × (In w f → ⊥)) r v → In v d' × (In v f → ⊥)
-    arrives d' t r i j v here = (i, j)
-    arrives d' t r i j v (more {b = u} q e) =
-        let h = arrives d' t r i j u q in
-        (⊎_elim (λ z. absurd (h.1 z)) (λ g. g v e.0) (t u h.0), e.1)
+    Arrives : ℕ → Type 0
+    Arrives v = In v (run out k s d f).disc × (In v f → ⊥)

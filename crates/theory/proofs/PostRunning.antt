@@ -1,50 +1,56 @@
 -- Runs of the post-order walk: with turns enough they end, and they discover nothing but what is reached. Assumes nothing.
-use Rattle.std.proofs.Common.{◌≡◌, ℕ, zero, suc, ◌+◌, ◌<◌, ◌≤◌, ◌⊎◌, List, [], ◌∷◌, length, sym, refl, subst, inl, inr, ⊎_elim, arith, length-append}
+use Rattle.std.proofs.Common.{◌≡◌, ℕ, ◌+◌, ◌<◌, ◌≤◌, ◌⊎◌, List, [], ◌∷◌, ◌++◌, length, sym, refl, subst, inl, inr, ⊎_elim, arith}
+use Rattle.std.proofs.Math.Logic.{⊎_map}
 use Rattle.theory.specs.Edges.{In}
 use Rattle.theory.specs.PostOrder.{State, Via, fresh, in?, run, step, visit, weight}
-use Rattle.theory.specs.Reach.{more}
+use Rattle.theory.specs.Reach.{Inside, more}
+use Rattle.theory.proofs.Machines.{all_keep, comes_to_end}
 use Rattle.theory.proofs.Pushing.{adds, fresh_length, pushed, weight_falls}
-use Rattle.theory.proofs.Reaching.{in_cases, in_cast, in_right}
+use Rattle.theory.proofs.Reaching.{in_cases, in_right, popped}
+use Rattle.theory.proofs.Steps.{Empty, run_machine, step_stays}
 use Rattle.theory.proofs.PostWalking.{Walk, discover, finish, skip, top}
 
--- a statement on states that every step keeps is kept by a run
-pub run_keeps : (out : ℕ → List ℕ) (P : (s d f : List ℕ) → Type 0) → ((s d f : List ℕ) → P s d f → P (step out s d f).stack (step out s d f).disc (step out s d f).fin) → (k : ℕ) (s d f : List ℕ) → P s d f → P (run out k s d f).stack (run out k s d f).disc (run out k s d f).fin
-unfolding run
-run_keeps out P keep zero s d f h = h
-run_keeps out P keep (suc k) s d f h =
-    let x = step out s d f in
-    run_keeps out P keep k x.stack x.disc x.fin (keep s d f h)
+-- a statement on states that every visit keeps is kept by a run
+pub run_keeps : (out : ℕ → List ℕ) (P : (s d f : List ℕ) → Type 0)
+    → ((v : ℕ) (s d f : List ℕ) (a : Dec (In v d)) (b : Dec (In v f)) → P (v ∷ s) d f → P (visit out v s d f a b).stack (visit out v s d f a b).disc (visit out v s d f a b).fin)
+    → (k : ℕ) (s d f : List ℕ) → P s d f → P (run out k s d f).stack (run out k s d f).disc (run out k s d f).fin
+run_keeps out P keep k s d f h =
+    all_keep (run_machine out) (λ x. P x.stack x.disc x.fin) (λ x. each x.stack x.disc x.fin) k (record { stack = s; disc = d; fin = f }) h
+  where
+    each : (s d f : List ℕ) → P s d f → P (step out s d f).stack (step out s d f).disc (step out s d f).fin
+    each [] d f p = p
+    each (v ∷ s) d f p = keep v s d f (in? v d) (in? v f) p
 
-module _ (out : ℕ → List ℕ) (n : ℕ) (inside : (u w : ℕ) → In w (out u) → w < n) where
-  pub fresh_nodes : (d : List ℕ) (v x : ℕ) → In x (fresh (v ∷ d) (out v)) → x < n
-  fresh_nodes d v x i = inside v x ((pushed out d v).target x i)
+-- every node of the stack is below n
+abbrev pub Nodes : ℕ → List ℕ → Type 0
+Nodes n s = (y : ℕ) → In y s → y < n
 
-  Falls : (s d f : List ℕ) (x : State) → Type 0
-  Falls s d f x = ((y : ℕ) → In y x.stack → y < n) × (length x.stack + weight out n x.disc < length s + weight out n d)
+pub one_node : {n i : ℕ} → i < n → Nodes n (i ∷ [])
+one_node lt y (inl e) = omega arith
+one_node lt y (inr z) = absurd z
 
-  visit_falls : (v : ℕ) (s d f : List ℕ) (a : Dec (In v d)) (b : Dec (In v f)) → ((y : ℕ) → In y (v ∷ s) → y < n) → Falls (v ∷ s) d f (visit out v s d f a b)
-  unfolding Falls
-  visit_falls v s d f (no m) b h = (
-    λ y i. ⊎_elim (λ j. fresh_nodes d v y j) (λ j. h y j) (in_cases y (fresh (v ∷ d) (out v)) (v ∷ s) i),
-    omega (arith, length-append (fresh (v ∷ d) (out v)) (v ∷ s), fresh_length (v ∷ d) (out v), weight_falls out n d v (h v (inl refl)) m),
-  )
+module _ (out : ℕ → List ℕ) (n : ℕ) (inside : Inside n out) where
+  pub fresh_nodes : (d : List ℕ) (v : ℕ) (s : List ℕ) → Nodes n s → Nodes n (fresh (v ∷ d) (out v) ++ s)
+  fresh_nodes d v s h y i = ⊎_elim (λ j. inside v y ((pushed out d v).target y j)) (h y) (in_cases y (fresh (v ∷ d) (out v)) s i)
+
+  -- from the stack s, with d discovered, x has less to do
+  abbrev pub Falls : (s d : List ℕ) (x : State) → Type 0
+  Falls s d x = Nodes n x.stack × (length x.stack + weight out n x.disc < length s + weight out n d)
+
+  visit_falls : (v : ℕ) (s d f : List ℕ) (a : Dec (In v d)) (b : Dec (In v f)) → Nodes n (v ∷ s) → Falls (v ∷ s) d (visit out v s d f a b)
+  visit_falls v s d f (no m) b h = (fresh_nodes d v (v ∷ s) h, omega (arith, fresh_length (v ∷ d) (out v) (v ∷ s), weight_falls out n d v (h v (inl refl)) m))
   visit_falls v s d f (yes i) (yes j) h = (λ y k. h y (inr k), omega arith)
   visit_falls v s d f (yes i) (no j) h = (λ y k. h y (inr k), omega arith)
 
+  step_falls : (s d f : List ℕ) → Nodes n s → (s ≡ []) ⊎ Falls s d (step out s d f)
+  step_falls [] d f h = inl refl
+  step_falls (v ∷ s) d f h = inr (visit_falls v s d f (in? v d) (in? v f) h)
+
   -- with enough fuel the stack is empty
-  pub run_ends : (k : ℕ) (s d f : List ℕ) → ((y : ℕ) → In y s → y < n) → length s + weight out n d ≤ k → (run out k s d f).stack ≡ []
-  unfolding run Falls
-  run_ends zero [] d f h m = refl
-  run_ends zero (v ∷ s) d f h m = absurd (omega arith)
-  run_ends (suc k) [] d f h m = rest k d f
-    where
-      rest : (k : ℕ) (d f : List ℕ) → (run out k [] d f).stack ≡ []
-      rest zero d f = refl
-      rest (suc k) d f = rest k d f
-  run_ends (suc k) (v ∷ s) d f h m =
-      let x = step out (v ∷ s) d f in
-      let t = visit_falls v s d f (in? v d) (in? v f) h in
-      run_ends k x.stack x.disc x.fin t.0 (omega (arith, t.1))
+  pub run_ends : (k : ℕ) (s d f : List ℕ) → Nodes n s → length s + weight out n d ≤ k → (run out k s d f).stack ≡ []
+  run_ends k s d f h m =
+      (comes_to_end (run_machine out) Empty (step_stays out) (λ x. Nodes n x.stack) (λ x. length x.stack + weight out n x.disc)
+      (λ x. step_falls x.stack x.disc x.fin) k (record { stack = s; disc = d; fin = f }) h m).0
 
 -- what a run keeps: nothing but what is old or reached is discovered or stacked
 pub record Reached (out : ℕ → List ℕ) (old : ℕ → Type 0) (s0 s d : List ℕ) : Type 0 where
@@ -66,7 +72,7 @@ module _ (out : ℕ → List ℕ) (old : ℕ → Type 0) (s0 : List ℕ) where
     found = h.found;
     aimed = λ x j. h.aimed x (inr j);
     kept = h.kept;
-    begun = λ x j. ⊎_elim (λ k. inl k) (⊎_elim (λ e. inl (in_cast d (sym e) i)) (λ k. inr k)) (h.begun x j);
+    begun = λ x j. popped (λ z. In z d) s i (h.begun x j);
   }
 
   pub visit_keeps : (v : ℕ) (s d f : List ℕ) (a : Dec (In v d)) (b : Dec (In v f)) → State-keeps (v ∷ s) d f → State-keeps (visit out v s d f a b).stack (visit out v s d f a b).disc (visit out v s d f a b).fin
@@ -81,7 +87,7 @@ module _ (out : ℕ → List ℕ) (old : ℕ → Type 0) (s0 : List ℕ) where
               (h.aimed x)
               (in_cases x l (v ∷ s) i);
           kept = λ x o. inr (h.kept x o);
-          begun = λ x i. ⊎_elim (λ j. inl (inr j)) (λ j. inr (in_right x l (v ∷ s) j)) (h.begun x i);
+          begun = λ x i. ⊎_map (λ j. inr j) (λ j. in_right x l (v ∷ s) j) (h.begun x i);
         },
       )
   visit_keeps v s d f (yes i) (yes j) (w, h) = ((w.0, skip out old (λ x. In x d) v s f w.0 w.1 j), reached_pop v s d h i)

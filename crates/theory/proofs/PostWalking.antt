@@ -1,6 +1,7 @@
 -- The post-order walk with a stack: what holds between its turns, and that each of its three turns (discover, skip, finish) keeps it.
 -- What is discovered is any predicate, so that a table of marks serves as well as a list. Assumes nothing.
 use Rattle.std.proofs.Common.{◌≡◌, ℕ, ◌⊎◌, List, [], ◌∷◌, ◌++◌, sym, refl, ap, subst, inl, inr, ⊎_elim}
+use Rattle.std.proofs.Math.Logic.{⊎_map}
 use Rattle.theory.specs.Edges.{In, Distinct}
 use Rattle.theory.specs.Reach.{Leads, Reach, more}
 use Rattle.theory.proofs.Reaching.{in_cast, reach_eq}
@@ -60,8 +61,8 @@ module _ (out : ℕ → List ℕ) (old : ℕ → Type 0) where
   pub cov_mono : (d k k' : ℕ → Type 0) (s : List ℕ) → ((x : ℕ) → k x → k' x) → Cov out old d k s → Cov out old d k' s
   cov_mono d k k' [] m c = tt
   cov_mono d k k' (g ∷ s) m c = (
-    λ h. ⊎_elim (λ o. inl o) (λ t. inr (λ w i. m w (t w i))) (c.0 h),
-    cov_mono d (λ x. k x ⊎ (x ≡ g)) (λ x. k' x ⊎ (x ≡ g)) s (λ x. ⊎_elim (λ a. inl (m x a)) (λ e. inr e)) c.1,
+    λ h. ⊎_map (λ o. o) (λ t w i. m w (t w i)) (c.0 h),
+    cov_mono d (λ x. k x ⊎ (x ≡ g)) (λ x. k' x ⊎ (x ≡ g)) s (λ x. ⊎_map (λ a. m x a) (λ e. e)) c.1,
   )
 
   -- one more discovered node whose targets are known
@@ -79,7 +80,7 @@ module _ (out : ℕ → List ℕ) (old : ℕ → Type 0) where
     λ h. absurd (n w (inl refl) h),
     cov_push d (λ x. k x ⊎ (x ≡ w)) l s (λ x i. n x (inr i))
         (cov_mono d (λ x. k x ⊎ ((x ≡ w) ⊎ In x l)) (λ x. (k x ⊎ (x ≡ w)) ⊎ In x l) s
-        (λ x. ⊎_elim (λ a. inl (inl a)) (⊎_elim (λ e. inl (inr e)) (λ i. inr i))) c),
+        (λ x. ⊎_elim (λ a. inl (inl a)) (⊎_map (λ e. inr e) (λ i. i))) c),
   )
 
   pub lay_push : (g : ℕ) (p l s : List ℕ) → ((w : ℕ) → In w l → (In w (g ∷ p) → ⊥) × In w (out g)) → Lay out s (g ∷ p) → Lay out (l ++ s) (g ∷ p)
@@ -99,14 +100,14 @@ module _ (out : ℕ → List ℕ) (old : ℕ → Type 0) where
         lay = lay_push v p l (v ∷ s)
             (λ x i. (⊎_elim (λ e. u.white x i (subst d' (sym e) a.new)) (λ j. u.white x i (a.keep x (w.path x j).0)), u.target x i))
             (lay_mark v s p off w.lay);
-        grey = λ x h. ⊎_elim (λ h. ⊎_elim (λ i. inl i) (λ i. inr (inr i)) (w.grey x h)) (λ e. inr (inl e)) (a.only x h);
+        grey = λ x h. ⊎_elim (λ h. ⊎_map (λ i. i) (λ i. inr i) (w.grey x h)) (λ e. inr (inl e)) (a.only x h);
         path = λ x. ⊎_elim
             (λ e. (subst d' (sym e) a.new, λ i. n (w.done v (in_cast f e i))))
             (λ i. (a.keep x (w.path x i).0, (w.path x i).1));
         done = λ x i. a.keep x (w.done x i);
         cov = cov_push d' d' l (v ∷ s) u.white
             (cov_add d d' (λ x. d' x ⊎ In x l) v (v ∷ s) a u.all (cov_mono d d (λ x. d' x ⊎ In x l) (v ∷ s) (λ x h. inl (a.keep x h)) w.cov));
-        told = λ x i. ⊎_elim (λ o. inl o) (λ t. inr (λ y j. a.keep y (t y j))) (w.told x i);
+        told = λ x i. ⊎_map (λ o. o) (λ t y j. a.keep y (t y j)) (w.told x i);
         once = w.once;
       }
 
@@ -143,7 +144,7 @@ module _ (out : ℕ → List ℕ) (old : ℕ → Type 0) where
       let back : (x : ℕ) → In x (v ∷ q) → In x p = λ x i. subst (In x) (sym t.is) i in
       record {
         lay = t.lay;
-        grey = λ x k. ⊎_elim (λ i. inl (inr i)) (λ i. ⊎_elim (λ e. inl (inl e)) (λ j. inr j) (on x i)) (w.grey x k);
+        grey = λ x k. ⊎_elim (λ i. inl (inr i)) (λ i. ⊎_map (λ e. inl e) (λ j. j) (on x i)) (w.grey x k);
         path = λ x i. ((w.path x (back x (inr i))).0, ⊎_elim (λ e. t.off (in_cast q e i)) (w.path x (back x (inr i))).1);
         done = λ x. ⊎_elim (λ e. subst d (sym e) h) (w.done x);
         cov = cov_mono d (λ x. d x ⊎ (x ≡ v)) d s (λ x. ⊎_elim (λ a. a) (λ e. subst d (sym e) h)) w.cov.1;

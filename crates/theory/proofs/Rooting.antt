@@ -1,6 +1,6 @@
 -- The roots are the listed nodes whose component no inside edge enters. Assumes nothing.
 use Rattle.std.proofs.Common.{◌≡◌, ℕ, zero, suc, ◌<◌, Bool, true, false, not, ◌&&◌, eqb, ◌⊎◌, List, [], ◌∷◌, ◌++◌, filter, sym, refl, ap, ◌∙◌, subst, inl, inr, ⊎_elim, arith}
-use Rattle.std.proofs.lemmas.Bool.{true≢false, cases_Bool, cond_both, eqb-true, eq-eqb, and_parts, and_from, or_cases, or_left, or_right, not-true, not_from_false}
+use Rattle.std.proofs.lemmas.Bool.{true≢false, cases_Bool, eqb-true, eq-eqb, and_parts, and_from, or_cases, or_left, or_right, not-true, not_from_false}
 use Rattle.theory.specs.Components.{Classes, Components, components, flat}
 use Rattle.theory.specs.Edges.{Edge, In, within}
 use Rattle.theory.specs.Graphs.{Sound, Tied}
@@ -9,7 +9,7 @@ use Rattle.theory.specs.PostOrder.{below}
 use Rattle.theory.specs.Reach.{Same, sources, targets}
 use Rattle.theory.proofs.Following.{far_below, near_at, near_below}
 use Rattle.theory.proofs.Grounds.{components_of_graph}
-use Rattle.theory.proofs.Kept.{in_kept, kept_in}
+use Rattle.theory.proofs.Kept.{filter_keeps, in_kept, kept_in}
 use Rattle.theory.proofs.Reaching.{in_cases, in_cast, same_sym, same_trans}
 use Rattle.theory.proofs.Sweeping.{below_in, in_below}
 
@@ -76,11 +76,7 @@ ascending_below zero = tt
 ascending_below (suc n) = ascending_end (below n) n (ascending_below n) (below_in n)
 
 pub ascending_kept : (p : ℕ → Bool) (l : List ℕ) → Ascending l → Ascending (filter p l)
-ascending_kept p [] a = tt
-ascending_kept p (x ∷ l) a =
-    cond_both (p x) (x ∷ filter p l) (filter p l) (λ zs. Ascending zs)
-    (λ _. (λ y i. a.0 y (in_kept p l y i).0, ascending_kept p l a.1))
-    (λ _. ascending_kept p l a.1)
+ascending_kept p = filter_keeps Ascending p tt (λ x l a. a.1) (λ x l m a sub k. (λ y i. a.0 y (sub y i), k))
 
 module _ (W : Type 0) (node : ℕ → Bool) (bound edges : ℕ) (outs ins : ℕ → List (Edge W)) (s : Sound node bound edges outs) (t : Tied outs ins) (d : Direction) (p : ℕ → Bool) where
   abbrev pub groups_here : List (List ℕ)

@@ -4,6 +4,7 @@ use Rattle.theory.specs.Rules.{Rule}
 use Rattle.theory.specs.Walk.{Place, Step, after, Walks, start, turn, did, run, order}
 use Rattle.theory.specs.Walk.Step.{ends, finds, drops, finishes}
 use Rattle.theory.specs.Walk.Walks.{begins, goes}
+use Rattle.theory.proofs.Machines.{Machine, all_keep}
 use Rattle.theory.proofs.Walking.{Lasting}
 use Rattle.theory.proofs.Looking.{turn_cases}
 use Rattle.theory.proofs.Looking.Turns.{ended, saw, passed, closed}
@@ -33,10 +34,12 @@ module _ {E : Type 0} (lst : ℕ → List E) (far : E → ℕ) (r : Rule E) wher
   unfolding Then
   run_walks initials k z = run_walks_on (start initials) k [] (start initials) (start initials) (begins refl refl) (λ a t p. p) z
 
-  pub run_keeps : (P : Place E → Type 0) → Lasting lst far r P → (k : ℕ) (s : Place E) → P s → P (run lst far r k s)
+  pub walk_machine : Machine (turn lst far r) (run lst far r)
   unfolding run
-  run_keeps P l zero s p = p
-  run_keeps P l (suc k) s p = run_keeps P l k (turn lst far r s) (elim (turn_cases lst far r s) [
+  walk_machine = record { none = λ s. refl; more = λ k s. refl }
+
+  pub run_keeps : (P : Place E → Type 0) → Lasting lst far r P → (k : ℕ) (s : Place E) → P s → P (run lst far r k s)
+  run_keeps P l = all_keep walk_machine P (λ s p. elim (turn_cases lst far r s) [
     | ended e a q ↦ subst P (sym q) p
     | saw x st e y a q ↦ subst P (sym q) (l.finding s x st e y p)
     | passed x st e y z a q ↦ subst P (sym q) (l.dropping s x st e y z p)

@@ -1,26 +1,16 @@
 -- A step has one answer and leads to one place; a walk is a number of turns; and one that came to the empty stack
 -- has done each node that it saw, once. Assumes nothing.
-use Rattle.std.proofs.Common.{◌≡◌, ℕ, zero, suc, ◌+◌, Bool, true, false, eqb, ◌⊎◌, List, [], ◌∷◌, Some, Option, sym, ap, ◌∙◌, subst, inl, inr, ⊎_elim, true≢false, arith}
+use Rattle.std.proofs.Common.{◌≡◌, ℕ, zero, suc, ◌+◌, true, eqb, ◌⊎◌, List, [], ◌∷◌, Option, sym, ap, ◌∙◌, subst, inl, inr, ⊎_elim, true≢false, arith}
+use Rattle.std.proofs.Math.Logic.{⊎_map}
 use Rattle.std.proofs.lemmas.Bool.{or_left, both_ways}
 use Rattle.theory.specs.Edges.{In, Distinct}
 use Rattle.theory.specs.Rules.{Rule}
-use Rattle.theory.specs.Walk.{Place, mark, found, dropped, finished, Step, after, Walks, start, turn, did, run, order}
+use Rattle.theory.specs.Walk.{Place, mark, found, dropped, Step, after, Walks, start, turn, did, run, order}
 use Rattle.theory.specs.Walk.Step.{ends, finds, drops, finishes}
 use Rattle.theory.specs.Walk.Walks.{begins, goes}
+use Rattle.theory.proofs.Reaching.{popped}
 use Rattle.theory.proofs.Looking.{turn_saw, turn_passed, turn_closed}
 use Rattle.theory.proofs.Walking.{mark_own, mark_cases, sent_at, answered_at}
-
-differ : (f : ℕ → Bool) (x y : ℕ) → x ≡ y → f x ≡ true → f y ≡ false → ⊥
-differ f x y e a b = true≢false (sym a ∙ ap f e ∙ b)
-
-same_top : (s : List ℕ) (x y : ℕ) (p q : List ℕ) → s ≡ x ∷ p → s ≡ y ∷ q → x ≡ y
-same_top s x y p q a b = cc
-
-same_rest : (s : List ℕ) (x y : ℕ) (p q : List ℕ) → s ≡ x ∷ p → s ≡ y ∷ q → p ≡ q
-same_rest s x y p q a b = cc
-
-no_top : (s : List ℕ) (x : ℕ) (p : List ℕ) → s ≡ [] → s ≡ x ∷ p → ⊥
-no_top s x p a b = let z : ◌≡◌ {A = ℕ} 0 1 = cc in omega arith
 
 module _ {E : Type 0} (lst : ℕ → List E) (far : E → ℕ) (r : Rule E) where
   -- a step is some turns
@@ -61,22 +51,22 @@ module _ {E : Type 0} (lst : ℕ → List E) (far : E → ℕ) (r : Rule E) wher
       )
 
   pub step_is_one : (a b : Option ℕ) (t u s : Place E) → Step lst far r a t s → Step lst far r b u s → (a ≡ b) × (t ≡ u)
-  step_is_one a b t u s (ends e q z) (ends e' q' z') = (q ∙ sym q', z ∙ sym z')
-  step_is_one a b t u s (ends e q z) (finds x st e' n w) = absurd (no_top s.stack x st e e')
-  step_is_one a b t u s (ends e q z) (drops x st e' n m w) = absurd (no_top s.stack x st e e')
-  step_is_one a b t u s (ends e q z) (finishes x st e' n m w v) = absurd (no_top s.stack x st e e')
-  step_is_one a b t u s (finds x st e n w) (ends e' q' z') = absurd (no_top s.stack x st e' e)
-  step_is_one a b t u s (finds x st e n w) (finds y st' e' n' w') = step_is_one a b t u _ w (subst (λ v. Step lst far r b u (found lst far r v s)) (sym (same_top s.stack x y st st' e e')) w')
-  step_is_one a b t u s (finds x st e n w) (drops y st' e' n' m' w') = absurd (differ s.seen y x (sym (same_top s.stack x y st st' e e')) n' n)
-  step_is_one a b t u s (finds x st e n w) (finishes y st' e' n' m' w' v') = absurd (differ s.seen y x (sym (same_top s.stack x y st st' e e')) n' n)
-  step_is_one a b t u s (drops x st e n m w) (ends e' q' z') = absurd (no_top s.stack x st e' e)
-  step_is_one a b t u s (drops x st e n m w) (finds y st' e' n' w') = absurd (differ s.seen x y (same_top s.stack x y st st' e e') n n')
-  step_is_one a b t u s (drops x st e n m w) (drops y st' e' n' m' w') = step_is_one a b t u _ w (subst (λ v. Step lst far r b u (dropped v s)) (sym (same_rest s.stack x y st st' e e')) w')
-  step_is_one a b t u s (drops x st e n m w) (finishes y st' e' n' m' w' v') = absurd (differ s.done x y (same_top s.stack x y st st' e e') m m')
-  step_is_one a b t u s (finishes x st e n m w v) (ends e' q' z') = absurd (no_top s.stack x st e' e)
-  step_is_one a b t u s (finishes x st e n m w v) (finds y st' e' n' w') = absurd (differ s.seen x y (same_top s.stack x y st st' e e') n n')
-  step_is_one a b t u s (finishes x st e n m w v) (drops y st' e' n' m' w') = absurd (differ s.done y x (sym (same_top s.stack x y st st' e e')) m' m)
-  step_is_one a b t u s (finishes x st e n m w v) (finishes y st' e' n' m' w' v') = (w ∙ ap Some (same_top s.stack x y st st' e e') ∙ sym w', v ∙ (λ j. finished (same_top s.stack x y st st' e e' j) (same_rest s.stack x y st st' e e' j) s) ∙ sym v')
+  step_is_one a b t u s (ends e q z) (ends e' q' z') = (cc, cc)
+  step_is_one a b t u s (ends e q z) (finds x st e' n w) = cc
+  step_is_one a b t u s (ends e q z) (drops x st e' n m w) = cc
+  step_is_one a b t u s (ends e q z) (finishes x st e' n m w v) = cc
+  step_is_one a b t u s (finds x st e n w) (ends e' q' z') = cc
+  step_is_one a b t u s (finds x st e n w) (finds y st' e' n' w') = let top : y ≡ x = cc in step_is_one a b t u _ w (subst (λ v. Step lst far r b u (found lst far r v s)) top w')
+  step_is_one a b t u s (finds x st e n w) (drops y st' e' n' m' w') = cc
+  step_is_one a b t u s (finds x st e n w) (finishes y st' e' n' m' w' v') = cc
+  step_is_one a b t u s (drops x st e n m w) (ends e' q' z') = cc
+  step_is_one a b t u s (drops x st e n m w) (finds y st' e' n' w') = cc
+  step_is_one a b t u s (drops x st e n m w) (drops y st' e' n' m' w') = let rest : st' ≡ st = cc in step_is_one a b t u _ w (subst (λ v. Step lst far r b u (dropped v s)) rest w')
+  step_is_one a b t u s (drops x st e n m w) (finishes y st' e' n' m' w' v') = cc
+  step_is_one a b t u s (finishes x st e n m w v) (ends e' q' z') = cc
+  step_is_one a b t u s (finishes x st e n m w v) (finds y st' e' n' w') = cc
+  step_is_one a b t u s (finishes x st e n m w v) (drops y st' e' n' m' w') = cc
+  step_is_one a b t u s (finishes x st e n m w v) (finishes y st' e' n' m' w' v') = (cc, cc)
 
   -- xs are the nodes done, each once; what was seen is done or on the stack
   record Lists (xs : List ℕ) (s : Place E) : Type 0 where
@@ -96,7 +86,7 @@ module _ {E : Type 0} (lst : ℕ → List E) (far : E → ℕ) (r : Rule E) wher
         saw_done = λ m h. or_left (s.seen m) (eqb m x) (l.saw_done m h);
         due = λ m h.
             let up : In m s.stack → In m (found lst far r x s).stack = λ i. (answered_at lst far r s x).keeps m ((sent_at lst far r s x).keeps m i) in
-            ⊎_elim (λ y. ⊎_elim (λ d. inl d) (λ i. inr (up i)) (l.due m y)) (λ q. inr (up (subst (In m) (sym e) (inl q)))) (mark_cases s.seen x m h);
+            ⊎_elim (λ y. ⊎_map (λ d. d) (λ i. up i) (l.due m y)) (λ q. inr (up (subst (In m) (sym e) (inl q)))) (mark_cases s.seen x m h);
       })
   step_lists a xs t s (drops x st e n m w) l =
       step_lists a xs t (dropped st s) w (record {
@@ -104,7 +94,7 @@ module _ {E : Type 0} (lst : ℕ → List E) (far : E → ℕ) (r : Rule E) wher
         all = l.all;
         only = l.only;
         saw_done = l.saw_done;
-        due = λ k h. ⊎_elim (λ d. inl d) (λ i. ⊎_elim (λ q. inl (ap s.done q ∙ m)) (λ j. inr j) (subst (In k) e i)) (l.due k h);
+        due = λ k h. popped (λ z. s.done z ≡ true) st m (subst (λ v. (s.done k ≡ true) ⊎ In k v) e (l.due k h));
       })
   step_lists a xs t s (finishes x st e n m q z) l =
       subst (λ v. Lists (after v xs) t) (sym q) (subst (Lists (x ∷ xs)) (sym z) (record {
@@ -114,7 +104,7 @@ module _ {E : Type 0} (lst : ℕ → List E) (far : E → ℕ) (r : Rule E) wher
         saw_done = λ k h. ⊎_elim (l.saw_done k) (λ p. ap s.seen p ∙ n) (mark_cases s.done x k h);
         due = λ k h. ⊎_elim
             (λ d. inl (or_left (s.done k) (eqb k x) d))
-            (λ i. ⊎_elim (λ p. inl (ap (mark s.done x) p ∙ mark_own s.done x)) (λ j. inr j) (subst (In k) e i))
+            (λ i. ⊎_map (λ p. ap (mark s.done x) p ∙ mark_own s.done x) (λ j. j) (subst (In k) e i))
             (l.due k h);
       }))
 

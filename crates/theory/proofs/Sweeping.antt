@@ -1,13 +1,14 @@
 -- The sweep from each node below the count finishes each once, in post-order. Assumes nothing.
 use Rattle.std.proofs.Common.{◌≡◌, ℕ, zero, suc, ◌<◌, ◌≤◌, ◌⊎◌, List, [], ◌∷◌, ◌++◌, sym, refl, subst, inl, inr, ⊎_elim, arith}
+use Rattle.std.proofs.Math.Logic.{⊎_map}
 use native.Mathlib.Decide.{ℕ_discrete}
 use Rattle.theory.specs.Edges.{In, Distinct}
-use Rattle.theory.specs.PostOrder.{Post, SweepFinishesInPostOrder, below, fresh, fuel, in?, run, step, sweep, visit, walk_from}
+use Rattle.theory.specs.PostOrder.{Post, SweepFinishesInPostOrder, below, fresh, fuel, in?, run, sweep, visit, walk_from}
 use Rattle.theory.specs.Reach.{Inside}
 use Rattle.theory.proofs.Finishing.{post_step}
 use Rattle.theory.proofs.Pushing.{adds, pushed, weight_most}
-use Rattle.theory.proofs.Reaching.{in_cases, in_cast, in_left, in_right}
-use Rattle.theory.proofs.PostRunning.{fresh_nodes, run_ends, run_keeps}
+use Rattle.theory.proofs.Reaching.{in_cases, in_cast, in_left, in_right, popped}
+use Rattle.theory.proofs.PostRunning.{fresh_nodes, one_node, run_ends, run_keeps}
 use Rattle.theory.proofs.PostWalking.{Told, Walk, discover, finish, skip, top}
 use Rattle.theory.proofs.PostEnding.{walk_end, walk_start}
 
@@ -59,15 +60,15 @@ module _ (out : ℕ → List ℕ) (n : ℕ) (inside : Inside n out) where
         walk = (v ∷ h.walk.0, discover out nobody (λ x. In x d) (λ x. In x (v ∷ d)) v s f h.walk.0 l h.walk.1 m (adds d v) (pushed out d v));
         post = h.post;
         keep = h.keep;
-        begun = ⊎_elim (λ j. inl (inr j)) (λ j. inr (in_right i l (v ∷ s) j)) h.begun;
-        stacked = λ y j. ⊎_elim (λ k. fresh_nodes out n inside d v y k) (λ k. h.stacked y k) (in_cases y l (v ∷ s) j);
+        begun = ⊎_map (λ j. inr j) (λ j. in_right i l (v ∷ s) j) h.begun;
+        stacked = fresh_nodes out n inside d v (v ∷ s) h.stacked;
         nodes = h.nodes;
       }
   visit_trip f0 i v s d f (yes j) (yes k) h = record {
     walk = (h.walk.0, skip out nobody (λ x. In x d) v s f h.walk.0 h.walk.1 k);
     post = h.post;
     keep = h.keep;
-    begun = ⊎_elim (λ a. inl a) (⊎_elim (λ e. inl (in_cast d (sym e) j)) (λ a. inr a)) h.begun;
+    begun = popped (λ z. In z d) s j h.begun;
     stacked = λ y a. h.stacked y (inr a);
     nodes = h.nodes;
   }
@@ -78,14 +79,10 @@ module _ (out : ℕ → List ℕ) (n : ℕ) (inside : Inside n out) where
         walk = (q.0, finish out nobody (λ x. In x d) v s f h.walk.0 q.0 w j k q.1);
         post = post_step out nobody (λ x. In x d) (λ x z. z) v s f h.walk.0 q.0 w j k q.1 h.post;
         keep = λ y a. inr (h.keep y a);
-        begun = ⊎_elim (λ a. inl a) (⊎_elim (λ e. inl (in_cast d (sym e) j)) (λ a. inr a)) h.begun;
+        begun = popped (λ z. In z d) s j h.begun;
         stacked = λ y a. h.stacked y (inr a);
         nodes = λ y. ⊎_elim (λ e. subst (λ z. z < n) (sym e) (h.stacked v (inl refl))) (h.nodes y);
       }
-
-  step_trip : (f0 : List ℕ) (i : ℕ) (s d f : List ℕ) → Trip out n f0 i s d f → Trip out n f0 i (step out s d f).stack (step out s d f).disc (step out s d f).fin
-  step_trip f0 i [] d f h = h
-  step_trip f0 i (v ∷ s) d f h = visit_trip f0 i v s d f (in? v d) (in? v f) h
 
   from_rest : (k : ℕ) → fuel out n ≤ k → (i : ℕ) → i < n → (d f : List ℕ) (c : Dec (In i d)) → Rest out n d f → let x = walk_from out k i d f c in Rest out n x.disc x.fin × ((y : ℕ) → In y f → In y x.fin) × In i x.fin
   unfolding fuel
@@ -97,10 +94,10 @@ module _ (out : ℕ → List ℕ) (n : ℕ) (inside : Inside n out) where
         post = h.post;
         keep = λ y a. a;
         begun = inr (inl refl);
-        stacked = λ y. ⊎_elim (λ e. subst (λ z. z < n) (sym e) lt) (λ z. absurd z);
+        stacked = one_node lt;
         nodes = h.nodes;
       } in
-      let t = run_keeps out (Trip out n f i) (step_trip f i) k (i ∷ []) d f start in
+      let t = run_keeps out (Trip out n f i) (visit_trip f i) k (i ∷ []) d f start in
       let ends = run_ends out n inside k (i ∷ []) d f start.stacked (omega (arith, weight_most out n d)) in
       let w = t.walk.1 in
       let same : (v : ℕ) → In v x.disc → In v x.fin = walk_end out nobody (λ v. In v x.disc) x.stack x.fin t.walk.0 ends w in (

@@ -1,19 +1,13 @@
 -- What a turned and a filtered graph keep to. Assumes nothing.
-use Rattle.std.proofs.Common.{◌≡◌, ℕ, Bool, true, ◌&&◌, List, [], ◌∷◌, map, filter, ap, subst, inl, inr}
+use Rattle.std.proofs.Common.{◌≡◌, ℕ, Bool, true, ◌&&◌, List, [], ◌∷◌, map, filter, ap, subst}
 use Rattle.std.proofs.lemmas.Bool.{and_parts, and_from}
 use Rattle.theory.specs.Edges.{Edge, In, Once, turn, within}
 use Rattle.theory.specs.Graphs.{Sound, Tied}
 use Rattle.theory.proofs.Kept.{in_kept, kept_in, once_kept}
+use Rattle.theory.proofs.Reaching.{in_cast, in_map, map_in}
 
 in_turned : {W : Type 0} (es : List (Edge W)) (e : Edge W) → In e (map turn es) → In (turn e) es
-in_turned [] e h = absurd h
-in_turned (x ∷ xs) e (inl q) = inl (ap turn q)
-in_turned (x ∷ xs) e (inr i) = inr (in_turned xs e i)
-
-turned_in : {W : Type 0} (es : List (Edge W)) (e : Edge W) → In (turn e) es → In e (map turn es)
-turned_in [] e h = absurd h
-turned_in (x ∷ xs) e (inl q) = inl (ap turn q)
-turned_in (x ∷ xs) e (inr i) = inr (turned_in xs e i)
+in_turned es e h = let r = in_map turn es e h in in_cast es (ap turn r.2) r.1
 
 once_turned : {W : Type 0} (es : List (Edge W)) → Once es → Once (map turn es)
 once_turned [] h = tt
@@ -36,8 +30,8 @@ module _ {W : Type 0} {node : ℕ → Bool} {bound edges : ℕ} {outs ins : ℕ 
   pub turned_tied : Tied (λ n. map turn (ins n)) (λ n. map turn (outs n))
   turned_tied = record {
     target = λ n e i. s.source n (turn e) (in_turned (outs n) e i);
-    out = λ n e i. turned_in (ins e.source) e (t.back n (turn e) (in_turned (outs n) e i));
-    back = λ n e i. turned_in (outs e.target) e (t.out n (turn e) (in_turned (ins n) e i));
+    out = λ n e i. map_in turn (ins e.source) (turn e) (t.back n (turn e) (in_turned (outs n) e i));
+    back = λ n e i. map_in turn (outs e.target) (turn e) (t.out n (turn e) (in_turned (ins n) e i));
     once = λ n. once_turned (outs n) (s.once n);
   }
 

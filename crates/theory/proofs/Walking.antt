@@ -1,28 +1,31 @@
 -- What the turns of a walk keep, and that a walk which came to the empty stack has seen the least set. Assumes nothing.
-use Rattle.std.proofs.Common.{◌≡◌, ℕ, Bool, true, false, not, eqb, ◌⊎◌, List, [], ◌∷◌, filter, Option, sym, refl, ap, ◌∙◌, subst, inl, inr, ⊎_elim, true≢false}
+use Rattle.std.proofs.Common.{◌≡◌, ℕ, Bool, true, false, eqb, ◌⊎◌, List, [], ◌∷◌, filter, Option, sym, refl, subst, inl, inr, ⊎_elim, true≢false}
+use Rattle.std.proofs.Math.Logic.{⊎_map}
+use mathlib.Core.List.{reverse_aux}
 use Rattle.std.proofs.lemmas.Bool.{or_cases, or_left, or_right, or_parts, eqb-true, eq-eqb}
 use Rattle.theory.specs.Edges.{In}
-use Rattle.theory.specs.Rules.{Rule, Waits, is_node, stays_at, Fair}
+use Rattle.theory.specs.Rules.{Rule, Waits, stays_at, Fair}
 use Rattle.theory.specs.Least.{Opens, Inside, IsLeast}
 use Rattle.theory.specs.Walk.{Place, place, mark, sends, asks, found, dropped, finished, Step, Walks, over, start}
 use Rattle.theory.specs.Walk.Step.{ends, finds, drops, finishes}
 use Rattle.theory.specs.Walk.Walks.{begins, goes}
 use Rattle.theory.proofs.Kept.{in_kept, kept_in}
+use Rattle.theory.proofs.Reaching.{in_reverse, popped, reverse_in}
 use Rattle.theory.proofs.Asking.{opens_more, Sent, sent, Answered, answered}
 
 pub mark_own : (d : ℕ → Bool) (x : ℕ) → mark d x x ≡ true
 mark_own d x = or_right (d x) (eqb x x) (eq-eqb x x refl)
 
 pub mark_cases : (d : ℕ → Bool) (x n : ℕ) → mark d x n ≡ true → (d n ≡ true) ⊎ (n ≡ x)
-mark_cases d x n h = ⊎_elim (λ t. inl t) (λ t. inr (eqb-true n x t)) (or_cases (d n) (eqb n x) h)
+mark_cases d x n h = ⊎_map (λ t. t) (λ t. eqb-true n x t) (or_cases (d n) (eqb n x) h)
 
-over_in : (xs st : List ℕ) (n : ℕ) → In n xs ⊎ In n st → In n (over xs st)
-over_in [] st n = ⊎_elim (λ i. absurd i) (λ i. i)
-over_in (x ∷ xs) st n = λ h. over_in xs (x ∷ st) n (⊎_elim (⊎_elim (λ e. inr (inl e)) (λ i. inl i)) (λ i. inr (inr i)) h)
+-- a stack over which initials were put
+pub over_is : (xs st : List ℕ) → over xs st ≡ reverse_aux xs st
+over_is [] st = refl
+over_is (x ∷ xs) st = over_is xs (x ∷ st)
 
-pub in_over : (xs st : List ℕ) (n : ℕ) → In n (over xs st) → In n xs ⊎ In n st
-in_over [] st n i = inr i
-in_over (x ∷ xs) st n i = ⊎_elim (λ j. inl (inr j)) (⊎_elim (λ e. inl (inl e)) (λ j. inr j)) (in_over xs (x ∷ st) n i)
+pub in_start : (xs : List ℕ) (n : ℕ) → In n (over xs []) → In n xs
+in_start xs n i = reverse_in xs n (subst (In n) (over_is xs []) i)
 
 module _ {E : Type 0} (lst : ℕ → List E) (far : E → ℕ) (r : Rule E) where
   -- a statement on places that a turn of each kind keeps
@@ -76,11 +79,11 @@ module _ {E : Type 0} (lst : ℕ → List E) (far : E → ℕ) (r : Rule E) wher
     }
       where
         lift : (n : ℕ) → (s.seen n ≡ true) ⊎ In n s.stack → (mark s.seen x n ≡ true) ⊎ In n (found lst far r x s).stack
-        lift n = ⊎_elim (λ h. inl (or_left (s.seen n) (eqb n x) h)) (λ i. inr ((answered_at s x).keeps n ((sent_at s x).keeps n i)))
+        lift n = ⊎_map (λ h. or_left (s.seen n) (eqb n x) h) (λ i. (answered_at s x).keeps n ((sent_at s x).keeps n i))
 
         freed : (u : ℕ) (e : E) → s.seen u ≡ true → In e (lst u) → Waits r e x → (mark s.seen x (far e) ≡ true) ⊎ In (far e) (found lst far r x s).stack
         freed u e h i p =
-            ⊎_elim (λ y. inl y) (λ j. inr ((answered_at s x).keeps (far e) j)) ((sent_at s x).all e (fair.all x s.held e (c.waiting u e x h i p new) p))
+            ⊎_map (λ y. y) (λ j. (answered_at s x).keeps (far e) j) ((sent_at s x).all e (fair.all x s.held e (c.waiting u e x h i p new) p))
 
         over_old : (u : ℕ) (e : E) → s.seen u ≡ true → In e (lst u) → Opens r (mark s.seen x) e → (mark s.seen x (far e) ≡ true) ⊎ In (far e) (found lst far r x s).stack
         over_old u e h i (inl p) = lift (far e) (c.leads u e h i (inl p))
@@ -90,7 +93,7 @@ module _ {E : Type 0} (lst : ℕ → List E) (far : E → ℕ) (r : Rule E) wher
         stays : (u : ℕ) (e : E) (w : ℕ) → s.seen u ≡ true → In e (lst u) → Waits r e w → mark s.seen x w ≡ false → In e (filter (stays_at r x) s.held)
         stays u e w h i p m =
             let y = or_parts (s.seen w) (eqb w x) m in
-            kept_in (stays_at r x) s.held e (c.waiting u e w h i p y.0) (ap (λ o. not (is_node x o)) p ∙ ap not y.1)
+            kept_in (stays_at r x) s.held e (c.waiting u e w h i p y.0) (rw (p, y.1))
 
     covers_less : (s : Place E) (x : ℕ) (st : List ℕ) (f : ℕ → Bool) → s.stack ≡ x ∷ st → s.seen x ≡ true → Covers initials s → Covers initials (place st s.seen f s.held)
     covers_less s x st f e h c = record {
@@ -100,8 +103,7 @@ module _ {E : Type 0} (lst : ℕ → List E) (far : E → ℕ) (r : Rule E) wher
     }
       where
         under : (n : ℕ) → (s.seen n ≡ true) ⊎ In n s.stack → (s.seen n ≡ true) ⊎ In n st
-        under n (inl y) = inl y
-        under n (inr i) = ⊎_elim (λ q. inl (ap s.seen q ∙ h)) (λ j. inr j) (subst (In n) e i)
+        under n y = popped (λ z. s.seen z ≡ true) st h (subst (λ l. (s.seen n ≡ true) ⊎ In n l) e y)
 
     covers_lasts : Lasting (Covers initials)
     covers_lasts = record {
@@ -112,7 +114,7 @@ module _ {E : Type 0} (lst : ℕ → List E) (far : E → ℕ) (r : Rule E) wher
 
     covers_start : Covers initials (start initials)
     covers_start = record {
-      starts = λ n i. inr (over_in initials [] n (inl i));
+      starts = λ n i. inr (subst (In n) (sym (over_is initials [])) (in_reverse initials n i));
       leads = λ u e h. absurd (true≢false (sym h));
       waiting = λ u e w h. absurd (true≢false (sym h));
     }
@@ -156,7 +158,7 @@ module _ {E : Type 0} (lst : ℕ → List E) (far : E → ℕ) (r : Rule E) wher
           (start initials) xs t w
           (record {
             saw = λ n h. absurd (true≢false (sym h));
-            stacked = λ n i. ⊎_elim (has n) (λ j. absurd j) (in_over initials [] n i);
+            stacked = λ n i. has n (in_start initials n i);
             from = λ e i. absurd i;
           })
           ).saw
