@@ -5,6 +5,7 @@ use mathlib.Core.Logic.{∥∥₁_elim}
 use native.Mathlib.Bridge.{le_prop}
 use std.HLevel.{Π_prop}
 use Rattle.std.proofs.lemmas.Bool.{cases_eq}
+use Rattle.std.proofs.lemmas.Grind.{elements}
 use Rattle.theory.specs.Chains.{Last}
 use Rattle.theory.proofs.Chaining.{last_prop, last_none, head_other, head_new, link_old, link_new, newest_more}
 use Rattle.tables.specs.Table.{source_at, target_at, record_at, edge_at, laid, Chains, Chains-prop, Laid}
@@ -76,9 +77,4 @@ module _ (ws vs : List ℕ) (nodes e s t : ℕ) (words : List ℕ) (l : Laid ws 
       (let p = l.source in let q = l.target in let r = ap held (new_record words four l.word0 l.word1 l.word2 l.word3) ∙ is in cc)
     where
       new_record : {a b c d : ℕ} (xs : List ℕ) → length xs ≡ 4 → a ≡ get_or xs 0 0 → b ≡ get_or xs 1 0 → c ≡ get_or xs 2 0 → d ≡ get_or xs 3 0 → ◌≡◌ {A = List ℕ} (a ∷ b ∷ c ∷ d ∷ []) xs
-      new_record [] f p q r u = absurd (omega arith)
-      new_record (x ∷ []) f p q r u = absurd (omega arith)
-      new_record (x ∷ y ∷ []) f p q r u = absurd (omega arith)
-      new_record (x ∷ y ∷ z ∷ []) f p q r u = absurd (omega arith)
-      new_record (x ∷ y ∷ z ∷ v ∷ []) f p q r u = cc
-      new_record (x ∷ y ∷ z ∷ v ∷ o ∷ os) f p q r u = absurd (omega arith)
+      new_record xs f p q r u = grind (arith, elements)
