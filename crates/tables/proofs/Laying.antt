@@ -48,8 +48,8 @@ module _ (ws vs : List ℕ) (nodes e s t : ℕ) (words : List ℕ) (l : Laid ws 
   heads : (f g w v : ℕ → ℕ) (x : ℕ) → ((j : ℕ) → j < e → g j ≡ f j) → g e ≡ x → v x ≡ e + 1 → ((n : ℕ) → n < nodes → (n ≡ x → ⊥) → v n ≡ w n)
       → ((n : ℕ) → n < nodes → Last f e n (w n)) → (n : ℕ) → n < nodes → Last g (e + 1) n (v n)
   heads f g w v x same is new others old n b = elim (cases_eq n x) [
-    | inl q ↦ subst (λ h. Last g (e + 1) n h) (sym (ap v q ∙ new)) (head_new f g e same n (is ∙ sym q))
-    | inr ne ↦ subst (λ h. Last g (e + 1) n h) (sym (others n b ne)) (head_other f g e same n (w n) (λ q. ne (sym q ∙ is)) (old n b))
+    | inl q ↦ rw (ap v q ∙ new) (head_new f g e same n (is ∙ sym q))
+    | inr ne ↦ rw (others n b ne) (head_other f g e same n (w n) (λ q. ne (sym q ∙ is)) (old n b))
   ]
 
   -- the next links of the chains by that end

@@ -82,9 +82,7 @@ module _ {W : Type 0} (held : List ℕ → W) (ws : List ℕ) (nodes edges : ℕ
   next : (key : Edge W → ℕ) (h link : ℕ) → Last (λ j. key (edge_at held ws nodes j)) (a - 1) (key (edge_at held ws nodes (a - 1))) h → link ≡ h
       → Steps (from key (edge_at held ws nodes) edges a) (Some edge) (from key (edge_at held ws nodes) edges link)
   next key h link l q =
-      let at = edge_at held ws nodes in
-      subst (λ x. Steps (from key at edges a) (Some x) (from key at edges link)) is
-      (subst (λ y. Steps (from key at edges a) (Some (at (a - 1))) (from key at edges y)) (sym q) (link_step key at edges a h pos top l))
+      rw (← is, q) (link_step key (edge_at held ws nodes) edges a h pos top l)
 
   pub next_forward : (link : ℕ) → link ≡ get_or ws (2 * nodes + 8 * (a - 1) + 2) 0 → Steps (from source_of (edge_at held ws nodes) edges a) (Some edge) (from source_of (edge_at held ws nodes) edges link)
   next_forward link q = next source_of _ link (c.next_out (a - 1) (omega arith)) q
