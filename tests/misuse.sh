@@ -7,9 +7,10 @@ set -euo pipefail
 top=$(cd "$(dirname "$0")/.." && pwd)
 work=$(mktemp -d)
 trap 'rm -rf "$work"' EXIT
-needs="theory index graph weak draft"
+needs="$(sed -n 's/^draft: *//p' "$top/crates.txt") draft"
 mkdir -p "$work/crates"
 for name in $needs; do
+    [ -d "$top/crates/$name" ] || continue # a crate of the kit
     mkdir "$work/crates/$name"
     for part in src specs proofs; do
         if [ -d "$top/crates/$name/$part" ]; then

@@ -1,5 +1,5 @@
 -- How many numbers below a count pass a test, and their list, ascending. Assumes nothing.
-use Rattle.std.proofs.Common.{◌≡◌, ℕ, zero, suc, ◌+◌, ◌/◌, ◌%◌, ◌^◌, ◌<◌, ◌≤◌, Bool, true, false, cond, not, ◌&&◌, ◌||◌, eqb, ◌⊎◌, [], ◌∷◌, ◌++◌, length, sym, refl, ap, ◌∙◌, ap₂, inl, inr, add-zero, add-suc, pow-suc, one-add, arith, length-append}
+use Rattle.std.proofs.Common.{◌≡◌, ℕ, zero, suc, ◌+◌, ◌-◌, ◌/◌, ◌%◌, ◌^◌, ◌<◌, ◌≤◌, Bool, true, false, cond, not, ◌&&◌, ◌||◌, eqb, ◌⊎◌, [], ◌∷◌, ◌++◌, length, sym, refl, ap, ◌∙◌, ap₂, inl, inr, add-zero, add-suc, pow-suc, one-add, arith, length-append}
 use mathlib.Core.Bool.{and-true, or-false}
 use native.Mathlib.Nat.{pow-zero}
 use lib.Count.{ones, ones_step}
@@ -67,6 +67,15 @@ pub count_stop : (p : ℕ → Bool) (m d : ℕ) → ((k : ℕ) → m ≤ k → p
 count_stop p m zero h = ap (how_many p) (add-zero m)
 count_stop p m (suc d) h =
     omega (arith, ap (how_many p) (add-suc m d), count_no p (m + d) (h (m + d) (omega arith)), count_stop p m d h)
+
+pub count_past : (p : ℕ → Bool) (n m : ℕ) → ((k : ℕ) → n ≤ k → p k ≡ false) → n ≤ m → how_many p m ≡ how_many p n
+count_past p n m stop l = let e : n + (m - n) ≡ m = omega arith in ap (how_many p) (sym e) ∙ count_stop p n (m - n) stop
+
+pub count_most : (p : ℕ → Bool) (n m : ℕ) → ((k : ℕ) → n ≤ k → p k ≡ false) → how_many p m ≤ n
+count_most p n m stop = elim (cases_lt m n) [
+  | inl l ↦ omega (arith, count_le p m)
+  | inr l ↦ omega (arith, count_past p n m stop l, count_le p n)
+]
 
 -- tests that agree, and pass nothing from two counts on
 pub count_same : (p q : ℕ → Bool) (m n : ℕ) → ((k : ℕ) → p k ≡ q k) → ((k : ℕ) → m ≤ k → p k ≡ false) → ((k : ℕ) → n ≤ k → q k ≡ false) → how_many p m ≡ how_many q n

@@ -1,5 +1,5 @@
 -- What the states say of an edge that arrives. Assumes nothing.
-use Rattle.std.proofs.Common.{◌≡◌, ℕ, zero, suc, ◌+◌, ◌<◌, ◌≤◌, Bool, true, false, cond, not, ◌&&◌, ◌||◌, T, eqb, ◌⊎◌, List, [], ◌∷◌, ◌++◌, length, get_or, Some, None, filter, Option, sym, refl, ap, ◌∙◌, subst, inl, inr, append-nil, arith, eqb→eq}
+use Rattle.std.proofs.Common.{◌≡◌, ℕ, zero, suc, ◌+◌, ◌<◌, ◌≤◌, Bool, true, false, cond, not, ◌&&◌, ◌||◌, T, eqb, ◌⊎◌, List, [], ◌∷◌, ◌++◌, length, get_or, Some, None, filter, Option, sym, refl, ap, ◌∙◌, subst, inl, inr, append-nil, arith, eqb→eq, ◌≢◌}
 use lib.Dec.{eqb_refl}
 use Rattle.std.specs.List.{slice_get}
 use Rattle.std.proofs.lemmas.Option.{slice_get-get_or, slice_get_past}
@@ -16,7 +16,7 @@ use Rattle.buffers.specs.declared.states.SingleBufferState.{SingleBufferState}
 use Rattle.buffers.specs.declared.states.SingleBufferState.TheVariants.{Buffered, Released}
 use Rattle.buffers.specs.declared.states.Event.TheVariants.{Arrives}
 use Rattle.buffers.specs.declared.states.Outcome.{Outcome}
-use Rattle.buffers.specs.declared.states.Outcome.TheVariants.{Holds, Judges, Frees, Nothing}
+use Rattle.buffers.specs.declared.states.Outcome.TheVariants.{Judges}
 
 is_true : (b : Bool) → T b → b ≡ true
 is_true true h = refl
@@ -90,10 +90,6 @@ waits_ext ss ss' h None = refl
 waits_ext ss ss' h (Some (NonWeak m)) = refl
 waits_ext ss ss' h (Some (Weak q o i)) = ap not (h i.0)
 
-told_cond : (told : ℕ → Bool) (a : Bool) (w : ℕ) → was_told told (cond a (Some w) None) ≡ (a && told w)
-told_cond told true w = refl
-told_cond told false w = refl
-
 cond_same : {X : Type 0} (a : Bool) (x : X) → cond a x x ≡ x
 cond_same true x = refl
 cond_same false x = refl
@@ -106,84 +102,79 @@ and-true : (a : Bool) → (a && true) ≡ a
 and-true true = refl
 and-true false = refl
 
--- an outcome that is another is not a judgement
-pub not_judged : (m : Outcome) → (m ≡ Holds) ⊎ (((x : ℕ) × (m ≡ Frees x)) ⊎ (m ≡ Nothing)) → m ≡ Judges → ⊥
-not_judged m (inl p) q = let z : ◌≡◌ {A = ℕ} 0 1 = cc in omega arith
-not_judged m (inr (inl p)) q = let r = p.1 in let z : ◌≡◌ {A = ℕ} 0 1 = cc in omega arith
-not_judged m (inr (inr p)) q = let z : ◌≡◌ {A = ℕ} 0 1 = cc in omega arith
+module _ (nodes : List ℕ) (ss : List SingleBufferState) (used : ℕ) (hold : List Entry) (e : Ref) (q : Option Link) (o : Link) (i : ℕ) (is : links (meaning e) ≡ Some (Weak q o (record { 0 = i }))) (ok : Okay nodes ss used hold) where
+  waits_is : (acc : Link → Bool) → waiting acc nodes (links (meaning e)) ≡ cond (acc o) (slice_get nodes i) None
+  waits_is acc = ap (waiting acc nodes) is
 
-module _ (acc : Link → Bool) (nodes : List ℕ) (ss : List SingleBufferState) (used : ℕ) (hold : List Entry) (e : Ref) (q : Option Link) (o : Link) (i : ℕ) (is : links (meaning e) ≡ Some (Weak q o (record { 0 = i }))) (ok : Okay nodes ss used hold) where
-  held : List (Edge FeatureEdge)
-  held = held_in acc ss used hold
+  -- what becomes of the edge: it is held, or it is not
+  pub record Arrived (ss' : List SingleBufferState) (used' : ℕ) (hold' : List Entry) (judged : Bool) : Type 0 where
+    pub okay : Okay nodes ss' used' hold'
+    pub few : used' ≤ used + 1
+    pub told : told_by nodes ss' ≡ told_by nodes ss
+    pub answer : judged ≡ was_told (told_by nodes ss) (slice_get nodes i)
+    pub held : (acc : Link → Bool) → held_in acc ss' used' hold' ≡ held_for (told_by nodes ss) (held_in acc ss used hold) (meaning e) (waiting acc nodes (links (meaning e)))
 
-  yes_no : Bool
-  yes_no = acc o
+  pub unregistered : length nodes ≤ i → Arrived ss used hold false
+  unregistered h = record {
+    okay = ok;
+    few = omega arith;
+    told = refl;
+    answer = sym (ap (was_told (told_by nodes ss)) (slice_get_past nodes i h));
+    held = λ acc. sym (ap (held_for (told_by nodes ss) (held_in acc ss used hold) (meaning e)) (waits_is acc ∙ ap (λ v. cond (acc o) v None) (slice_get_past nodes i h) ∙ cond_same (acc o) None));
+  }
 
-  waits_is : waiting acc nodes (links (meaning e)) ≡ cond yes_no (slice_get nodes i) None
-  unfolding yes_no
-  waits_is = ap (waiting acc nodes) is
+  module _ (h : i < length nodes) where
+    told_index : told_by nodes ss (get_or nodes i 0) ≡ is_out (state_of ss i)
+    told_index = told_at nodes ss i h ok.agree
 
-  waits_past : length nodes ≤ i → waiting acc nodes (links (meaning e)) ≡ None
-  waits_past h = waits_is ∙ ap (λ v. cond yes_no v None) (slice_get_past nodes i h) ∙ cond_same yes_no None
+    at_told : was_told (told_by nodes ss) (slice_get nodes i) ≡ is_out (state_of ss i)
+    at_told = ap (was_told (told_by nodes ss)) (slice_get-get_or nodes i 0 h) ∙ told_index
 
-  pub past_answer : length nodes ≤ i → false ≡ was_told (told_by nodes ss) (waiting acc nodes (links (meaning e)))
-  unfolding yes_no
-  past_answer h = sym (ap (was_told (told_by nodes ss)) (waits_past h))
-
-  pub past_keeps : length nodes ≤ i → held_in acc ss used hold ≡ held_for (told_by nodes ss) (held_in acc ss used hold) (meaning e) (waiting acc nodes (links (meaning e)))
-  unfolding held
-  past_keeps h = sym (ap (held_for (told_by nodes ss) held (meaning e)) (waits_past h))
-
-  waits_at : i < length nodes → waiting acc nodes (links (meaning e)) ≡ cond yes_no (Some (get_or nodes i 0)) None
-  waits_at h = waits_is ∙ ap (λ v. cond yes_no v None) (slice_get-get_or nodes i 0 h)
-
-  at_told : i < length nodes → was_told (told_by nodes ss) (waiting acc nodes (links (meaning e))) ≡ (yes_no && is_out (state_of ss i))
-  at_told h = ap (was_told (told_by nodes ss)) (waits_at h) ∙ told_cond (told_by nodes ss) yes_no (get_or nodes i 0) ∙ ap (λ v. yes_no && v) (told_at nodes ss i h ok.agree)
-
-  at_held : i < length nodes → (b : Bool) → is_out (state_of ss i) ≡ b → held_for (told_by nodes ss) held (meaning e) (waiting acc nodes (links (meaning e))) ≡ cond b held (held ++ cond yes_no (meaning e ∷ []) [])
-  at_held h b s = ap (held_for (told_by nodes ss) held (meaning e)) (waits_at h) ∙ go yes_no b (told_at nodes ss i h ok.agree ∙ s)
-    where
-      go : (a b : Bool) → told_by nodes ss (get_or nodes i 0) ≡ b → held_for (told_by nodes ss) held (meaning e) (cond a (Some (get_or nodes i 0)) None) ≡ cond b held (held ++ cond a (meaning e ∷ []) [])
-      go true true t = ap (λ x. cond x held (held ++ meaning e ∷ [])) t
-      go true false t = ap (λ x. cond x held (held ++ meaning e ∷ [])) t
-      go false true t = refl
-      go false false t = sym (append-nil held)
-
-  module _ (h : i < length nodes) (ss' : List SingleBufferState) (used' : ℕ) (hold' : List Entry) (m : Outcome) where
-    pub record Arrived (r : Bool) : Type 0 where
-      pub okay : Okay nodes ss' used' hold'
-      pub few : used' ≤ used + 1
-      pub told : told_by nodes ss' ≡ told_by nodes ss
-      pub answer : r ≡ was_told (told_by nodes ss) (waiting acc nodes (links (meaning e)))
-      pub keeps : held_in acc ss' used' hold' ≡ held_for (told_by nodes ss) (held_in acc ss used hold) (meaning e) (waiting acc nodes (links (meaning e)))
-
-    pub arrived_holds : (s : SingleBufferState) → state_of ss i ≡ s → Met nodes i ss ss' used used' hold hold' s (Arrives e) m → (m ≡ Judges → ⊥) → Arrived false
-    unfolding held yes_no
-    arrived_holds Released s t z = absurd (z t.0)
-    arrived_holds (Buffered f l) s t z = record {
-      okay = t.4;
-      few = let a = t.1 in omega arith;
-      told = told_ext nodes ss ss' t.3;
-      answer = sym (at_told h ∙ ap (λ v. yes_no && is_out v) s ∙ and-false yes_no);
-      keeps = now ∙ sym (at_held h false (ap is_out s));
-    }
+    at_held : (acc : Link → Bool) (held : List (Edge FeatureEdge)) (b : Bool) → is_out (state_of ss i) ≡ b → held_for (told_by nodes ss) held (meaning e) (waiting acc nodes (links (meaning e))) ≡ cond b held (held ++ cond (acc o) (meaning e ∷ []) [])
+    at_held acc held b s = ap (held_for (told_by nodes ss) held (meaning e)) (waits_is acc ∙ ap (λ v. cond (acc o) v None) (slice_get-get_or nodes i 0 h)) ∙ go (acc o) b (told_index ∙ s)
       where
-        ones : held_one acc ss' ≡ held_one acc ss
-        ones = λ j x. wanted acc (links x) && waits_ext ss ss' t.3 (links x) j
+        go : (a b : Bool) → told_by nodes ss (get_or nodes i 0) ≡ b → held_for (told_by nodes ss) held (meaning e) (cond a (Some (get_or nodes i 0)) None) ≡ cond b held (held ++ cond a (meaning e ∷ []) [])
+        go true true t = ap (λ x. cond x held (held ++ meaning e ∷ [])) t
+        go true false t = ap (λ x. cond x held (held ++ meaning e ∷ [])) t
+        go false true t = refl
+        go false false t = sym (append-nil held)
 
-        one : held_one acc ss (meaning e) ≡ yes_no
-        one = ap (λ v. wanted acc v && waits_in ss v) is ∙ ap (λ v. yes_no && not (is_out v)) s ∙ and-true yes_no
-
-        now : held_in acc ss' used' hold' ≡ held ++ cond yes_no (meaning e ∷ []) []
-        now = (λ j. filter (ones j) (t.2 j)) ∙ filter-append (held_one acc ss) (lying used hold) (meaning e ∷ []) ∙ ap (λ b. held ++ cond b (meaning e ∷ []) []) one
-
-    pub arrived_judges : (s : SingleBufferState) (r : Bool) → state_of ss i ≡ s → Met nodes i ss ss' used used' hold hold' s (Arrives e) m → m ≡ Judges → r ≡ acc o → Arrived r
-    unfolding held yes_no
-    arrived_judges (Buffered f l) r s t z a = absurd (let y = t.0 in let b : ◌≡◌ {A = ℕ} 0 1 = cc in omega arith)
-    arrived_judges Released r s t z a = record {
+    pub arrived : (ss' : List SingleBufferState) (used' : ℕ) (hold' : List Entry) (m : Outcome) (s : SingleBufferState) (room : used + 1 ≤ length hold') → state_of ss i ≡ s → Met i ss ss' used used' hold hold' s (Arrives e) m → (b : Bool) → (b ≡ true → m ≡ Judges) → (b ≡ false → m ≢ Judges) → Arrived ss' used' hold' b
+    arrived ss' used' hold' m Released room s t false y n = absurd (n refl t.0)
+    arrived ss' used' hold' m (Buffered c) room s t true y n = absurd (let z = y refl in let w = t.0 in cc)
+    arrived ss' used' hold' m Released room s t true y n = record {
       okay = subst (λ v. Okay nodes v used' hold') (sym t.3) (subst (λ v. Okay nodes ss v hold') (sym t.1) (subst (λ v. Okay nodes ss used v) (sym t.2) ok));
       few = let b = t.1 in omega arith;
       told = ap (told_by nodes) t.3;
-      answer = a ∙ sym (at_told h ∙ ap (λ v. yes_no && is_out v) s ∙ and-true yes_no);
-      keeps = (λ j. held_in acc (t.3 j) (t.1 j) (t.2 j)) ∙ sym (at_held h true (ap is_out s));
+      answer = sym (at_told ∙ ap is_out s);
+      held = λ acc. (λ j. held_in acc (t.3 j) (t.1 j) (t.2 j)) ∙ sym (at_held acc (held_in acc ss used hold) true (ap is_out s));
     }
+    arrived ss' used' hold' m (Buffered c) room s t false y n = record {
+      okay = record {
+        long = t.1.long ∙ ok.long;
+        fits = let b = t.1.more in omega arith;
+        agree = λ a b la lb w. t.1.outs a ∙ ok.agree a b la lb w ∙ sym (t.1.outs b);
+        chained = λ j l. t.1.chains j (ok.chained j l);
+      };
+      few = let b = t.1.more in omega arith;
+      told = told_ext nodes ss ss' t.1.outs;
+      answer = sym (at_told ∙ ap is_out s);
+      held = λ acc. now acc ∙ sym (at_held acc (held_in acc ss used hold) false (ap is_out s));
+    }
+      where
+        ones : (acc : Link → Bool) → held_one acc ss' ≡ held_one acc ss
+        ones acc = λ j x. wanted acc (links x) && waits_ext ss ss' t.1.outs (links x) j
+
+        one : (acc : Link → Bool) → held_one acc ss (meaning e) ≡ acc o
+        one acc = ap (λ v. wanted acc v && waits_in ss v) is ∙ ap (λ v. acc o && not (is_out v)) s ∙ and-true (acc o)
+
+        now : (acc : Link → Bool) → held_in acc ss' used' hold' ≡ held_in acc ss used hold ++ cond (acc o) (meaning e ∷ []) []
+        now acc = (λ j. filter (ones acc j) (t.1.lies j)) ∙ filter-append (held_one acc ss) (lying used hold) (meaning e ∷ []) ∙ ap (λ b. held_in acc ss used hold ++ cond b (meaning e ∷ []) []) (one acc)
+
+-- the optional half of a weak slash lets its edge out if its index was told of its node, and it is accepted
+pub half_told : (acc : Link → Bool) (nodes : List ℕ) (told : ℕ → Bool) (q : Option Link) (o : Link) (i : ℕ) → was_told told (waiting acc nodes (Some (Weak q o (record { 0 = i })))) ≡ (was_told told (slice_get nodes i) && acc o)
+half_told acc nodes told q o i = go (acc o) (slice_get nodes i)
+  where
+    go : (a : Bool) (w : Option ℕ) → was_told told (cond a w None) ≡ (was_told told w && a)
+    go true w = sym (and-true (was_told told w))
+    go false w = sym (and-false (was_told told w))

@@ -1,32 +1,37 @@
 -- Chains of places, and an edge that joins its chain. Assumes nothing.
-use Rattle.std.proofs.Common.{◌≡◌, ℕ, zero, suc, ◌+◌, ◌<◌, ◌≤◌, Bool, true, false, T, ◌≢◌, List, [], ◌∷◌, ◌++◌, map, length, get_or, take, set, Some, None, Option, sym, refl, ap, ◌∙◌, subst, inl, inr, true≢false, arith, eqb→eq, length-set, get_or-set_other, get_or-set_same}
+use Rattle.std.proofs.Common.{◌≡◌, ℕ, zero, suc, ◌+◌, ◌<◌, ◌≤◌, Bool, true, false, T, ◌≢◌, List, [], ◌∷◌, ◌++◌, map, length, get_or, take, set, Some, None, Option, sym, refl, ap, ◌∙◌, subst, true≢false, arith, eqb→eq, length-set, get_or-set_other, get_or-set_same}
 use native.Mathlib.Decide.{dec_lt, ℕ_discrete}
 use Rattle.std.proofs.lemmas.List.{take_more_set, take_more, map-append}
 use Rattle.buffers.specs.Rules.{links, at_index}
-use Rattle.buffers.specs.Buffers.{Ref, Entry, meaning, is_out, state_of, edge_of, lying, at_place, next_of, Void, Next, Last, Linked, Chained, Okay}
+use Rattle.buffers.specs.Buffers.{Ref, Entry, meaning, is_out, state_of, edge_of, lying, at_place, next_of, Void, Next, Last, Linked, Chained, extended, linked_with, relinked, Ready, Joins, Met}
+use Rattle.std.specs.Option.{MatchOption}
 use Rattle.index.specs.declared.links.EdgeLinks.{EdgeLinks}
 use Rattle.index.specs.declared.links.EdgeLinks.TheVariants.{NonWeak, Weak}
+use Rattle.buffers.specs.declared.states.Chain.{Chain}
 use Rattle.buffers.specs.declared.states.SingleBufferState.{SingleBufferState}
 use Rattle.buffers.specs.declared.states.SingleBufferState.TheVariants.{Buffered, Released}
+use Rattle.buffers.specs.declared.states.Event.{Event}
+use Rattle.buffers.specs.declared.states.Event.TheVariants.{Arrives}
+use Rattle.buffers.specs.declared.states.Outcome.TheVariants.{Holds}
 
-pub at_set_same : (i : ℕ) (hold : List Entry) (k : ℕ) (h : Entry) → k < length hold → at_place i (set hold k h) k ≡ at_index i (links (edge_of h))
+at_set_same : (i : ℕ) (hold : List Entry) (k : ℕ) (h : Entry) → k < length hold → at_place i (set hold k h) k ≡ at_index i (links (edge_of h))
 at_set_same i [] k h l = absurd (omega arith)
 at_set_same i (x ∷ xs) zero h l = refl
 at_set_same i (x ∷ xs) (suc k) h l = at_set_same i xs k h (omega arith)
 
-pub at_set_other : (i : ℕ) (hold : List Entry) (k m : ℕ) (h : Entry) → m ≢ k → at_place i (set hold k h) m ≡ at_place i hold m
+at_set_other : (i : ℕ) (hold : List Entry) (k m : ℕ) (h : Entry) → m ≢ k → at_place i (set hold k h) m ≡ at_place i hold m
 at_set_other i [] k m h n = refl
 at_set_other i (x ∷ xs) zero zero h n = absurd (n refl)
 at_set_other i (x ∷ xs) zero (suc m) h n = refl
 at_set_other i (x ∷ xs) (suc k) zero h n = refl
 at_set_other i (x ∷ xs) (suc k) (suc m) h n = at_set_other i xs k m h (λ e. n (ap suc e))
 
-pub next_set_same : (hold : List Entry) (k : ℕ) (h : Entry) → k < length hold → next_of (set hold k h) k ≡ h.next
+next_set_same : (hold : List Entry) (k : ℕ) (h : Entry) → k < length hold → next_of (set hold k h) k ≡ h.next
 next_set_same [] k h l = absurd (omega arith)
 next_set_same (x ∷ xs) zero h l = refl
 next_set_same (x ∷ xs) (suc k) h l = next_set_same xs k h (omega arith)
 
-pub next_set_other : (hold : List Entry) (k m : ℕ) (h : Entry) → m ≢ k → next_of (set hold k h) m ≡ next_of hold m
+next_set_other : (hold : List Entry) (k m : ℕ) (h : Entry) → m ≢ k → next_of (set hold k h) m ≡ next_of hold m
 next_set_other [] k m h n = refl
 next_set_other (x ∷ xs) zero zero h n = absurd (n refl)
 next_set_other (x ∷ xs) zero (suc m) h n = refl
@@ -43,18 +48,44 @@ next_read [] k h l e = absurd (omega arith)
 next_read (x ∷ xs) zero h l e = ap (λ v. v.next) (sym e)
 next_read (x ∷ xs) (suc k) h l e = next_read xs k h (omega arith) e
 
-pub lying_set : (hold : List Entry) (used : ℕ) (h : Entry) → used < length hold → lying (used + 1) (set hold used h) ≡ lying used hold ++ edge_of h ∷ []
+lying_set : (hold : List Entry) (used : ℕ) (h : Entry) → used < length hold → lying (used + 1) (set hold used h) ≡ lying used hold ++ edge_of h ∷ []
 lying_set hold used h l = ap (map edge_of) (take_more_set hold used h l) ∙ map-append edge_of (take used hold) (h ∷ [])
 
 pub lying_more : (hold : List Entry) (k : ℕ) (h : Entry) → k < length hold → h ≡ get_or hold k h → lying (k + 1) hold ≡ lying k hold ++ edge_of h ∷ []
 lying_more hold k h l e = ap (map edge_of) (take_more hold k h l) ∙ map-append edge_of (take k hold) (get_or hold k h ∷ []) ∙ ap (λ v. lying k hold ++ edge_of v ∷ []) (sym e)
 
-pub lying_relink : (n : ℕ) (hold : List Entry) (k : ℕ) (h g : Entry) → h ≡ get_or hold k h → edge_of g ≡ edge_of h → lying n (set hold k g) ≡ lying n hold
-lying_relink zero hold k h g e q = refl
-lying_relink (suc n) [] k h g e q = refl
-lying_relink (suc n) (x ∷ xs) zero h g e q = ap (λ v. v ∷ lying n xs) (q ∙ ap edge_of e)
-lying_relink (suc n) (x ∷ xs) (suc k) h g e q = ap (λ v. edge_of x ∷ v) (lying_relink n xs k h g e q)
+-- a link changes neither the edges nor how many entries there are, and of the links it changes one
+lying_linked : (n p k : ℕ) (hold : List Entry) → lying n (linked_with p k hold) ≡ lying n hold
+lying_linked zero p k hold = refl
+lying_linked (suc n) p k [] = refl
+lying_linked (suc n) p zero (x ∷ xs) = refl
+lying_linked (suc n) p (suc k) (x ∷ xs) = ap (λ v. edge_of x ∷ v) (lying_linked n p k xs)
 
+at_linked : (i p k : ℕ) (hold : List Entry) (m : ℕ) → at_place i (linked_with p k hold) m ≡ at_place i hold m
+at_linked i p k [] m = refl
+at_linked i p zero (x ∷ xs) zero = refl
+at_linked i p zero (x ∷ xs) (suc m) = refl
+at_linked i p (suc k) (x ∷ xs) zero = refl
+at_linked i p (suc k) (x ∷ xs) (suc m) = at_linked i p k xs m
+
+next_linked_same : (p k : ℕ) (hold : List Entry) → k < length hold → next_of (linked_with p k hold) k ≡ Some p
+next_linked_same p k [] l = absurd (omega arith)
+next_linked_same p zero (x ∷ xs) l = refl
+next_linked_same p (suc k) (x ∷ xs) l = next_linked_same p k xs (omega arith)
+
+next_linked_other : (p k : ℕ) (hold : List Entry) (m : ℕ) → m ≢ k → next_of (linked_with p k hold) m ≡ next_of hold m
+next_linked_other p k [] m n = refl
+next_linked_other p zero (x ∷ xs) zero n = absurd (n refl)
+next_linked_other p zero (x ∷ xs) (suc m) n = refl
+next_linked_other p (suc k) (x ∷ xs) zero n = refl
+next_linked_other p (suc k) (x ∷ xs) (suc m) n = next_linked_other p k xs m (λ e. n (ap suc e))
+
+pub set_linked : (p k : ℕ) (hold : List Entry) (d : Entry) → k < length hold → set hold k (record { edge = (get_or hold k d).edge; next = Some p }) ≡ linked_with p k hold
+set_linked p k [] d l = absurd (omega arith)
+set_linked p zero (x ∷ xs) d l = refl
+set_linked p (suc k) (x ∷ xs) d l = ap (λ v. x ∷ v) (set_linked p k xs d (omega arith))
+
+-- a test b that is a below n
 module _ (a b : ℕ → Bool) (n : ℕ) (same : (k : ℕ) → k < n → b k ≡ a k) where
   void_same : (k m : ℕ) → m ≤ n → Void a k m → Void b k m
   void_same k m h v = λ i x y. same i (omega arith) ∙ v i x y
@@ -66,53 +97,40 @@ module _ (a b : ℕ → Bool) (n : ℕ) (same : (k : ℕ) → k < n → b k ≡ 
       go i x y (yes e) = ap b e ∙ z
       go i x y (no q) = same i (omega arith) ∙ v i x (omega arith)
 
-  pub next_some : (k j : ℕ) → Next a n k (suc j) → Next b (n + 1) k (suc j)
-  next_some k j (inl t) = absurd (let z = t.0 in omega arith)
-  next_some k j (inr t) = inr (t.0, t.1, t.2, omega (arith, t.3), same t.0 t.3 ∙ t.4, void_same k t.0 (omega (arith, t.3)) t.5)
+  pub next_same : (k : ℕ) (o : Option ℕ) → Next a n k o → Next b n k o
+  next_same k None t = void_same k n (omega arith) t
+  next_same k (Some j) t = (t.0, t.1, same j t.1 ∙ t.2, void_same k j (omega (arith, t.1)) t.3)
 
-  pub next_other : (k x : ℕ) → b n ≡ false → Next a n k x → Next b (n + 1) k x
-  next_other k x z (inl t) = inl (t.0, void_more k z t.1)
-  next_other k x z (inr t) = inr (t.0, t.1, t.2, omega (arith, t.3), same t.0 t.3 ∙ t.4, void_same k t.0 (omega (arith, t.3)) t.5)
+  next_some : (k j : ℕ) → Next a n k (Some j) → Next b (n + 1) k (Some j)
+  next_some k j t = (t.0, omega (arith, t.1), same j t.1 ∙ t.2, void_same k j (omega (arith, t.1)) t.3)
 
-  pub next_new : (k x : ℕ) → b n ≡ true → k ≤ n → x ≡ 0 → Next a n k x → Next b (n + 1) k (n + 1)
-  next_new k x y h z (inl t) = inr (n, omega arith, h, omega arith, y, void_same k n (omega arith) t.1)
-  next_new k x y h z (inr t) = absurd (let q = t.1 in omega arith)
+  next_other : (k : ℕ) (o : Option ℕ) → b n ≡ false → Next a n k o → Next b (n + 1) k o
+  next_other k None z t = void_more k z t
+  next_other k (Some j) z t = next_some k j t
 
-  pub last_other : (x : ℕ) → b n ≡ false → Last a n x → Last b (n + 1) x
-  last_other x z (inl t) = inl (t.0, void_more 0 z t.1)
-  last_other x z (inr t) = inr (t.0, t.1, omega (arith, t.2), same t.0 t.2 ∙ t.3, void_more (suc t.0) z t.4)
+  next_new : (k : ℕ) → b n ≡ true → k ≤ n → Void a k n → Next b (n + 1) k (Some n)
+  next_new k y h v = (h, omega arith, y, void_same k n (omega arith) v)
 
-  pub last_new : b n ≡ true → Last b (n + 1) (n + 1)
-  last_new y = inr (n, omega arith, omega arith, y, λ i h m. absurd (omega arith))
+  last_other : (l : ℕ) → b n ≡ false → Last a n l → Last b (n + 1) l
+  last_other l z t = (omega (arith, t.0), same l t.0 ∙ t.1, void_more (suc l) z t.2)
+
+  last_new : b n ≡ true → Last b (n + 1) n
+  last_new y = (omega arith, y, λ i h m. absurd (omega arith))
 
 void_not : (a : ℕ → Bool) (k n i : ℕ) → Void a k n → k ≤ i → i < n → a i ≡ true → ⊥
 void_not a k n i v h m t = true≢false (sym t ∙ v i h m)
 
 -- the place with nothing after it is the last
-last_is : (a : ℕ → Bool) (n l k x : ℕ) → Last a n l → k < n → a k ≡ true → x ≡ 0 → Next a n (suc k) x → l ≡ suc k
-last_is a n l k x (inl t) h y z w = absurd (void_not a 0 n k t.1 (omega arith) h y)
-last_is a n l k x (inr t) h y z (inr w) = absurd (let q = w.1 in omega arith)
-last_is a n l k x (inr t) h y z (inl w) = go (dec_lt k t.0) (dec_lt t.0 k)
+last_is : (a : ℕ → Bool) (n l k : ℕ) → Last a n l → k < n → a k ≡ true → Void a (suc k) n → l ≡ k
+last_is a n l k t h y w = go (dec_lt k l) (dec_lt l k)
   where
-    go : Dec (k < t.0) → Dec (t.0 < k) → l ≡ suc k
-    go (yes p) q = absurd (void_not a (suc k) n t.0 w.1 p t.2 t.3)
-    go (no p) (yes q) = absurd (void_not a (suc t.0) n k t.4 q h y)
-    go (no p) (no q) = let e = t.1 in omega arith
+    go : Dec (k < l) → Dec (l < k) → l ≡ k
+    go (yes p) q = absurd (void_not a (suc k) n l w p t.0 t.1)
+    go (no p) (yes q) = absurd (void_not a (suc l) n k t.2 q h y)
+    go (no p) (no q) = omega arith
 
-last_not : (a : ℕ → Bool) (n l k j : ℕ) → Last a n l → Next a n (suc k) (suc j) → l ≡ suc k → ⊥
-last_not a n l k j (inl t) w e = let q = t.0 in omega arith
-last_not a n l k j (inr t) (inl w) e = let q = w.0 in omega arith
-last_not a n l k j (inr t) (inr w) e = let q = t.1 in let p : suc t.0 ≤ w.0 = omega (arith, w.2) in void_not a (suc t.0) n w.0 t.4 p w.3 w.4
-
-first_none : (a : ℕ → Bool) (n l f : ℕ) → Last a n l → l ≡ 0 → Next a n 0 f → f ≡ 0
-first_none a n l f (inr t) z w = absurd (let q = t.1 in omega arith)
-first_none a n l f (inl t) z (inl w) = w.0
-first_none a n l f (inl t) z (inr w) = absurd (void_not a 0 n w.0 t.1 (omega arith) w.3 w.4)
-
-first_some : (a : ℕ → Bool) (n l f : ℕ) → Last a n l → (l ≡ 0 → ⊥) → Next a n 0 f → (j : ℕ) × (f ≡ suc j)
-first_some a n l f (inl t) z w = absurd (z t.0)
-first_some a n l f (inr t) z (inr w) = (w.0, w.1)
-first_some a n l f (inr t) z (inl w) = absurd (void_not a 0 n t.0 w.1 (omega arith) t.2 t.3)
+last_not : (a : ℕ → Bool) (n l k j : ℕ) → Last a n l → Next a n (suc k) (Some j) → l ≢ k
+last_not a n l k j t w e = void_not a (suc l) n j t.2 (omega (arith, w.0)) w.1 w.2
 
 pub at_one : (i j : ℕ) (l : Option EdgeLinks) → at_index i l ≡ true → at_index j l ≡ true → i ≡ j
 at_one i j None x y = absurd (true≢false (sym x))
@@ -128,73 +146,141 @@ place_one i j [] k x y = absurd (true≢false (sym x))
 place_one i j (h ∷ hs) zero x y = at_one i j (links (edge_of h)) x y
 place_one i j (h ∷ hs) (suc k) x y = place_one i j hs k x y
 
-module _ (nodes : List ℕ) (ss : List SingleBufferState) (used : ℕ) (hold hold' : List Entry) (i f f' l : ℕ) (e : Ref) (ok : Okay nodes ss used hold) (known : i < length nodes) (small : i < 1024) (state : state_of ss i ≡ Buffered f l) (at : at_index i (links (meaning e)) ≡ true) (room : used < length hold) (sized : length hold' ≡ length hold) (below : (j k : ℕ) → k < used → at_place j hold' k ≡ at_place j hold k) (new : (j : ℕ) → at_place j hold' used ≡ at_index j (links (meaning e))) (others : (k : ℕ) → k < used → (l ≡ suc k → ⊥) → next_of hold' k ≡ next_of hold k) (before : (k : ℕ) → l ≡ suc k → next_of hold' k ≡ used + 1) (end : next_of hold' used ≡ 0) (start : l ≡ 0 → f' ≡ used + 1) (kept : (l ≡ 0 → ⊥) → f' ≡ f) where
-  chain : Next (at_place i hold) used 0 f × Last (at_place i hold) used l × Linked i used hold
-  chain = subst (Chained i used hold) state (ok.chained i known)
+module _ (hold : List Entry) (used : ℕ) (e : Ref) (room : used < length hold) where
+  abbrev behind : List Entry
+  behind = set hold used (record { edge = e; next = None })
 
-  own : Chained i (used + 1) hold' (Buffered f' (used + 1))
-  own = (head (ℕ_discrete l 0), last_new (at_place i hold) (at_place i hold') used (below i) (new i ∙ at), λ k h t. link k h t (ℕ_discrete k used))
-    where
-      head : Dec (l ≡ 0) → Next (at_place i hold') (used + 1) 0 f'
-      head (yes z) = subst (Next (at_place i hold') (used + 1) 0) (sym (start z)) (next_new (at_place i hold) (at_place i hold') used (below i) 0 f (new i ∙ at) (omega arith) (first_none (at_place i hold) used l f chain.1 z chain.0) chain.0)
-      head (no z) =
-          let p = first_some (at_place i hold) used l f chain.1 z chain.0 in
-          subst (Next (at_place i hold') (used + 1) 0) (sym (kept z ∙ p.1)) (next_some (at_place i hold) (at_place i hold') used (below i) 0 p.0 (subst (Next (at_place i hold) used 0) p.1 chain.0))
+  -- an edge is written behind all that lie in the table, and a chain is linked with it
+  abbrev now : Option Chain → List Entry
+  now chain = relinked used chain behind
 
-      after : (k x : ℕ) → k < used → at_place i hold k ≡ true → next_of hold k ≡ x → Next (at_place i hold') (used + 1) (suc k) (next_of hold' k)
-      after k zero h t q =
-          let w = chain.2 k h t in
-          let z = last_is (at_place i hold) used l k (next_of hold k) chain.1 h t q w in
-          subst (Next (at_place i hold') (used + 1) (suc k)) (sym (before k z)) (next_new (at_place i hold) (at_place i hold') used (below i) (suc k) (next_of hold k) (new i ∙ at) h q w)
-      after k (suc j) h t q =
-          let w = subst (Next (at_place i hold) used (suc k)) q (chain.2 k h t) in
-          let n = others k h (last_not (at_place i hold) used l k j chain.1 w) in
-          subst (Next (at_place i hold') (used + 1) (suc k)) (sym (n ∙ q)) (next_some (at_place i hold) (at_place i hold') used (below i) (suc k) j w)
+  abbrev Apart : Option Chain → ℕ → Type 0
+  Apart chain k = (c : Chain) → chain ≡ Some c → c.last ≢ k
 
-      link : (k : ℕ) → k < used + 1 → at_place i hold' k ≡ true → Dec (k ≡ used) → Next (at_place i hold') (used + 1) (suc k) (next_of hold' k)
-      link k h t (yes y) = inl (ap (next_of hold') y ∙ end, λ m a b. absurd (omega arith))
-      link k h t (no z) = let s : k < used = omega arith in after k (next_of hold k) s (sym (below i k s) ∙ t) refl
+  below : (chain : Option Chain) (j k : ℕ) → k < used → at_place j (now chain) k ≡ at_place j hold k
+  below None j k lt = at_set_other j hold used k _ (omega arith)
+  below (Some c) j k lt = at_linked j used c.last behind k ∙ at_set_other j hold used k _ (omega arith)
 
-  foreign : (j : ℕ) → j ≢ i → (s : SingleBufferState) → Chained j used hold s → Chained j (used + 1) hold' s
-  foreign j n Released c = tt
-  foreign j n (Buffered g m) c = (next_other (at_place j hold) (at_place j hold') used (below j) 0 g no' c.0, last_other (at_place j hold) (at_place j hold') used (below j) m no' c.1, λ k h t. link k h t (ℕ_discrete k used))
-    where
-      no' : at_place j hold' used ≡ false
-      no' = not-true (at_place j hold' used) (λ t. n (at_one j i (links (meaning e)) (sym (new j) ∙ t) at))
+  new : (chain : Option Chain) (j : ℕ) → at_place j (now chain) used ≡ at_index j (links (meaning e))
+  new None j = at_set_same j hold used _ room
+  new (Some c) j = at_linked j used c.last behind used ∙ at_set_same j hold used _ room
 
-      link : (k : ℕ) → k < used + 1 → at_place j hold' k ≡ true → Dec (k ≡ used) → Next (at_place j hold') (used + 1) (suc k) (next_of hold' k)
-      link k h t (yes y) = absurd (true≢false (sym t ∙ ap (at_place j hold') y ∙ no'))
-      link k h t (no z) =
-          let s : k < used = omega arith in
-          let u : at_place j hold k ≡ true = sym (below j k s) ∙ t in
-          let q = others k s (λ q. n (place_one j i hold k u (at_last q))) in
-          subst (Next (at_place j hold') (used + 1) (suc k)) (sym q) (next_other (at_place j hold) (at_place j hold') used (below j) (suc k) (next_of hold k) no' (c.2 k s u))
+  others : (chain : Option Chain) (k : ℕ) → k < used → Apart chain k → next_of (now chain) k ≡ next_of hold k
+  others None k lt n = next_set_other hold used k _ (omega arith)
+  others (Some c) k lt n = next_linked_other used c.last behind k (λ q. n c refl (sym q)) ∙ next_set_other hold used k _ (omega arith)
+
+  end : (chain : Option Chain) → Apart chain used → next_of (now chain) used ≡ None
+  end None n = next_set_same hold used _ room
+  end (Some c) n = next_linked_other used c.last behind used (λ q. n c refl (sym q)) ∙ next_set_same hold used _ room
+
+  before : (c : Chain) → c.last < used → next_of (now (Some c)) c.last ≡ Some used
+  before c lt = let b = length-set hold used (record { edge = e; next = None }) in next_linked_same used c.last behind (omega arith)
+
+  lies : (chain : Option Chain) → lying (used + 1) (now chain) ≡ lying used hold ++ meaning e ∷ []
+  lies None = lying_set hold used _ room
+  lies (Some c) = lying_linked (used + 1) used c.last behind ∙ lying_set hold used _ room
+
+  module _ (i : ℕ) (at : at_index i (links (meaning e)) ≡ true) where
+    -- the index that the edge has
+    own : (chain : Option Chain) → Chained i used hold (Buffered chain) → Chained i (used + 1) (now chain) (Buffered (Some (extended used chain)))
+    own None v = (
+      next_new (at_place i hold) (at_place i (now None)) used (below None i) 0 (new None i ∙ at) (omega arith) v,
+      last_new (at_place i hold) (at_place i (now None)) used (below None i) (new None i ∙ at),
+      λ k h t. link k h t (ℕ_discrete k used),
+    )
+      where
+        link : (k : ℕ) → k < used + 1 → at_place i (now None) k ≡ true → Dec (k ≡ used) → Next (at_place i (now None)) (used + 1) (suc k) (next_of (now None) k)
+        link k h t (yes y) = subst (Next (at_place i (now None)) (used + 1) (suc k)) (sym (ap (next_of (now None)) y ∙ end None (λ c q. absurd cc))) (λ m x z. absurd (omega arith))
+        link k h t (no z) = let s : k < used = omega arith in absurd (void_not (at_place i hold) 0 used k v (omega arith) s (sym (below None i k s) ∙ t))
+    own (Some c) w = (
+      next_some (at_place i hold) (at_place i (now (Some c))) used (below (Some c) i) 0 c.first w.0,
+      last_new (at_place i hold) (at_place i (now (Some c))) used (below (Some c) i) (new (Some c) i ∙ at),
+      λ k h t. link k h t (ℕ_discrete k used),
+    )
+      where
+        far : Apart (Some c) used
+        far d q z = let y : c ≡ d = cc in let x = ap (λ v. v.last) y in let l = w.1.0 in omega arith
+
+        after : (k : ℕ) (o : Option ℕ) → k < used → at_place i hold k ≡ true → next_of hold k ≡ o → Next (at_place i (now (Some c))) (used + 1) (suc k) (next_of (now (Some c)) k)
+        after k None s t q =
+            let v = subst (Next (at_place i hold) used (suc k)) q (w.2 k s t) in
+            let z = last_is (at_place i hold) used c.last k w.1 s t v in
+            subst (Next (at_place i (now (Some c))) (used + 1) (suc k)) (sym (ap (next_of (now (Some c))) (sym z) ∙ before c w.1.0)) (next_new (at_place i hold) (at_place i (now (Some c))) used (below (Some c) i) (suc k) (new (Some c) i ∙ at) s v)
+        after k (Some j) s t q =
+            let v = subst (Next (at_place i hold) used (suc k)) q (w.2 k s t) in
+            let n = last_not (at_place i hold) used c.last k j w.1 v in
+            subst (Next (at_place i (now (Some c))) (used + 1) (suc k)) (sym (others (Some c) k s (λ d y x. n (let z : c ≡ d = cc in ap (λ u. u.last) z ∙ x)) ∙ q)) (next_some (at_place i hold) (at_place i (now (Some c))) used (below (Some c) i) (suc k) j v)
+
+        link : (k : ℕ) → k < used + 1 → at_place i (now (Some c)) k ≡ true → Dec (k ≡ used) → Next (at_place i (now (Some c))) (used + 1) (suc k) (next_of (now (Some c)) k)
+        link k h t (yes y) = subst (Next (at_place i (now (Some c))) (used + 1) (suc k)) (sym (ap (next_of (now (Some c))) y ∙ end (Some c) far)) (λ m x z. absurd (omega arith))
+        link k h t (no z) = let s : k < used = omega arith in after k (next_of hold k) s (sym (below (Some c) i k s) ∙ t) refl
+
+    module _ (chain : Option Chain) (mine : Chained i used hold (Buffered chain)) where
+      -- the last place of the index's chain is of no other index
+      at_last : (c : Chain) → chain ≡ Some c → at_place i hold c.last ≡ true
+      at_last c q = (subst (λ v. Chained i used hold (Buffered v)) q mine).1.1
+
+      foreign : (j : ℕ) → j ≢ i → (s : SingleBufferState) → Chained j used hold s → Chained j (used + 1) (now chain) s
+      foreign j n s c = go s c
         where
-          at_last : l ≡ suc k → at_place i hold k ≡ true
-          at_last q = go chain.1
-            where
-              go : Last (at_place i hold) used l → at_place i hold k ≡ true
-              go (inl t) = absurd (let z = t.0 in omega arith)
-              go (inr t) = let p = t.1 in let r : k ≡ t.0 = omega arith in ap (at_place i hold) r ∙ t.3
+          none : at_place j (now chain) used ≡ false
+          none = not-true (at_place j (now chain) used) (λ t. n (at_one j i (links (meaning e)) (sym (new chain j) ∙ t) at))
 
-  outs : (j : ℕ) → is_out (state_of (set ss i (Buffered f' (used + 1))) j) ≡ is_out (state_of ss j)
-  outs j = go (ℕ_discrete j i)
+          link : Linked j used hold → (k : ℕ) → k < used + 1 → at_place j (now chain) k ≡ true → Dec (k ≡ used) → Next (at_place j (now chain)) (used + 1) (suc k) (next_of (now chain) k)
+          link l k h t (yes y) = absurd (true≢false (sym t ∙ ap (at_place j (now chain)) y ∙ none))
+          link l k h t (no z) =
+              let s : k < used = omega arith in
+              let u : at_place j hold k ≡ true = sym (below chain j k s) ∙ t in
+              let q = others chain k s (λ d y x. n (place_one j i hold k u (ap (at_place i hold) (sym x) ∙ at_last d y))) in
+              subst (Next (at_place j (now chain)) (used + 1) (suc k)) (sym q) (next_other (at_place j hold) (at_place j (now chain)) used (below chain j) (suc k) (next_of hold k) none (l k s u))
+
+          go : (s : SingleBufferState) → Chained j used hold s → Chained j (used + 1) (now chain) s
+          go Released c = tt
+          go (Buffered None) c = void_more (at_place j hold) (at_place j (now chain)) used (below chain j) 0 none c
+          go (Buffered (Some d)) c = (
+            next_other (at_place j hold) (at_place j (now chain)) used (below chain j) 0 (Some d.first) none c.0,
+            last_other (at_place j hold) (at_place j (now chain)) used (below chain j) d.last none c.1,
+            λ k h t. link c.2 k h t (ℕ_discrete k used),
+          )
+
+      module _ (ss : List SingleBufferState) (small : i < length ss) (state : state_of ss i ≡ Buffered chain) where
+        abbrev moved : List SingleBufferState
+        moved = set ss i (Buffered (Some (extended used chain)))
+
+        own_state : state_of moved i ≡ Buffered (Some (extended used chain))
+        own_state = get_or-set_same ss i _ (Buffered None) small
+
+        other_state : (j : ℕ) → j ≢ i → state_of moved j ≡ state_of ss j
+        other_state j n = get_or-set_other ss i j _ (Buffered None) n
+
+        outs : (j : ℕ) → Dec (j ≡ i) → is_out (state_of moved j) ≡ is_out (state_of ss j)
+        outs j (yes y) = ap (λ v. is_out (state_of moved v)) y ∙ ap is_out own_state ∙ sym (ap (λ v. is_out (state_of ss v)) y ∙ ap is_out state)
+        outs j (no n) = ap is_out (other_state j n)
+
+        chains : (j : ℕ) → Dec (j ≡ i) → Chained j used hold (state_of ss j) → Chained j (used + 1) (now chain) (state_of moved j)
+        chains j (yes y) c = subst (λ v. Chained v (used + 1) (now chain) (state_of moved v)) (sym y) (subst (Chained i (used + 1) (now chain)) (sym own_state) (own chain mine))
+        chains j (no n) c = subst (Chained j (used + 1) (now chain)) (sym (other_state j n)) (foreign j n (state_of ss j) c)
+
+        pub joins : Joins e ss moved used (used + 1) hold (now chain)
+        joins = record { more = refl; long = length-set ss i _; lies = lies chain; outs = λ j. outs j (ℕ_discrete j i); chains = λ j. chains j (ℕ_discrete j i) }
+
+-- a buffered index meets an edge, which is appended to its chain
+module _ (i : ℕ) (ss : List SingleBufferState) (used : ℕ) (hold : List Entry) (chain : Option Chain) (e : Ref) (ev : Event) (small : i < 1024) (long : length ss ≡ 1024) (evq : ev ≡ Arrives e) (sq : state_of ss i ≡ Buffered chain) (ready : Ready i ss used hold ev) where
+  r : (at_index i (links (meaning e)) ≡ true) × (used < length hold) × Chained i used hold (state_of ss i)
+  r = subst (Ready i ss used hold) evq ready
+
+  mine : Chained i used hold (Buffered chain)
+  mine = subst (Chained i used hold) sq r.2
+
+  pub last_before : MatchOption chain (Unit {0}) (λ (c : Chain). c.last < used)
+  last_before = go chain mine
     where
-      go : Dec (j ≡ i) → is_out (state_of (set ss i (Buffered f' (used + 1))) j) ≡ is_out (state_of ss j)
-      go (yes y) = ap is_out (ap (state_of (set ss i (Buffered f' (used + 1)))) y ∙ get_or-set_same ss i (Buffered f' (used + 1)) (Buffered 0 0) (let z = ok.long in omega arith)) ∙ sym (ap is_out (ap (state_of ss) y ∙ state))
-      go (no n) = ap is_out (get_or-set_other ss i j (Buffered f' (used + 1)) (Buffered 0 0) n)
+      go : (o : Option Chain) → Chained i used hold (Buffered o) → MatchOption o (Unit {0}) (λ (c : Chain). c.last < used)
+      go None m = tt
+      go (Some c) m = m.1.0
 
-  pub joined_outs : (ss' : List SingleBufferState) → ss' ≡ set ss i (Buffered f' (used + 1)) → (j : ℕ) → is_out (state_of ss' j) ≡ is_out (state_of ss j)
-  joined_outs ss' q j = ap (λ v. is_out (state_of v j)) q ∙ outs j
-
-  pub joined : (ss' : List SingleBufferState) → ss' ≡ set ss i (Buffered f' (used + 1)) → Okay nodes ss' (used + 1) hold'
-  joined ss' q = subst (λ v. Okay nodes v (used + 1) hold') (sym q) (record {
-    long = length-set ss i (Buffered f' (used + 1)) ∙ ok.long;
-    fits = omega arith;
-    agree = λ a b la lb w. outs a ∙ ok.agree a b la lb w ∙ sym (outs b);
-    chained = λ j h. go j h (ℕ_discrete j i);
-  })
-    where
-      go : (j : ℕ) → j < length nodes → Dec (j ≡ i) → Chained j (used + 1) hold' (state_of (set ss i (Buffered f' (used + 1))) j)
-      go j h (yes y) = subst (λ v. Chained v (used + 1) hold' (state_of (set ss i (Buffered f' (used + 1))) v)) (sym y) (subst (Chained i (used + 1) hold') (sym (get_or-set_same ss i (Buffered f' (used + 1)) (Buffered 0 0) (let z = ok.long in omega arith))) own)
-      go j h (no n) = subst (Chained j (used + 1) hold') (sym (get_or-set_other ss i j (Buffered f' (used + 1)) (Buffered 0 0) n)) (foreign j n (state_of ss j) (ok.chained j h))
+  pub met_arrives : (longer : Chain) (hold' : List Entry) → longer ≡ extended used chain → hold' ≡ relinked used chain (set hold used (record { edge = e; next = None })) → Met i ss (set ss i (Buffered (Some longer))) used (used + 1) hold hold' (state_of ss i) ev Holds
+  met_arrives longer hold' p q =
+      subst (λ v. Met i ss (set ss i (Buffered (Some longer))) used (used + 1) hold hold' (state_of ss i) v Holds) (sym evq)
+      (subst (λ s. Met i ss (set ss i (Buffered (Some longer))) used (used + 1) hold hold' s (Arrives e) Holds) (sym sq)
+      (refl, subst (λ v. Joins e ss (set ss i (Buffered (Some v))) used (used + 1) hold hold') (sym p) (subst (Joins e ss (set ss i (Buffered (Some (extended used chain)))) used (used + 1) hold) (sym q) (joins hold used e r.1 i r.0 chain mine ss (omega arith) sq))))

@@ -1,5 +1,6 @@
 -- Following a chain. Assumes nothing.
-use Rattle.std.proofs.Common.{◌≡◌, ℕ, zero, suc, ◌+◌, ◌-◌, ◌<◌, ◌≤◌, Bool, true, false, cond, ◌&&◌, List, [], ◌∷◌, ◌++◌, map, length, get_or, take, set, filter, sym, refl, ap, ◌∙◌, subst, inl, inr, append_assoc, append-nil, arith, length-append}
+use Rattle.std.proofs.Common.{◌≡◌, ℕ, zero, suc, ◌+◌, ◌-◌, ◌<◌, ◌≤◌, Bool, true, false, cond, ◌&&◌, List, [], ◌∷◌, ◌++◌, map, length, get_or, take, set, filter, Some, None, Option, sym, refl, ap, ◌∙◌, subst, append-nil, arith, length-append}
+use Rattle.std.proofs.Math.Seq.{take-length}
 use Rattle.std.proofs.lemmas.List.{take_more_set, map_push, get_or_default}
 use Rattle.std.proofs.lemmas.List.Elements.{filter-append}
 use Rattle.buffers.specs.Rules.{links, wanted, at_index, goes_out}
@@ -7,17 +8,12 @@ use Rattle.buffers.specs.Buffers.{Ref, Entry, meaning, edge_of, handed, lying, a
 use Rattle.index.specs.declared.links.Link.{Link}
 use Rattle.theory.specs.Edges.{Edge}
 use Rattle.index.specs.declared.records.FeatureEdge.{FeatureEdge}
-use Rattle.index.specs.declared.records.FeatureEdge.TheVariants.{NamedFeature}
 use Rattle.buffers.proofs.Chaining.{at_read, next_read, lying_more}
 
--- what a read of the hold table gives where it has no entry
-abbrev pub nothing : Entry
-nothing = record { edge = record { source = record { 0 = 0 }; target = record { 0 = 0 }; number = 0; weight = NamedFeature }; next = 0 }
-
 -- how many places lie from a link on
-abbrev pub left_to : ℕ → ℕ → ℕ
-left_to n zero = 0
-left_to n (suc j) = suc n - suc j
+abbrev pub left_to : ℕ → Option ℕ → ℕ
+left_to n None = 0
+left_to n (Some j) = n - j
 
 entry_at : (hold : List Entry) (k : ℕ) → k < length hold → (h : Entry) × (h ≡ get_or hold k h)
 entry_at [] k l = absurd (omega arith)
@@ -57,105 +53,90 @@ module _ (acc : Link → Bool) (hold : List Entry) (i : ℕ) where
       omega arith
 
 -- how far it has come: the places below k are dealt with
-pub record Following (acc : Link → Bool) (hold : List Entry) (used i start : ℕ) (hand₀ hand : List Ref) (at out : ℕ) : Type 0 where
+pub record Following (acc : Link → Bool) (hold : List Entry) (i : ℕ) (hand : List Ref) (at : Option ℕ) (out : ℕ) : Type 0 where
   pub k : ℕ
-  pub below : k ≤ used
-  pub next : Next (at_place i hold) used k at
-  pub goes : handed out hand ≡ handed start hand₀ ++ filter (goes_out acc i) (lying k hold)
-  pub counts : out ≡ start + length (filter (goes_out acc i) (lying k hold))
+  pub below : k ≤ length hold
+  pub next : Next (at_place i hold) (length hold) k at
+  pub goes : handed out hand ≡ filter (goes_out acc i) (lying k hold)
+  pub counts : out ≡ length (filter (goes_out acc i) (lying k hold))
 
-module _ (acc : Link → Bool) (hold : List Entry) (used i start : ℕ) (hand₀ hand : List Ref) where
-  pub following_start : used ≤ length hold → (first : ℕ) → Next (at_place i hold) used 0 first → Following acc hold used i start hand₀ hand₀ first start
-  following_start l first n = record { k = 0; below = omega arith; next = n; goes = sym (append-nil (handed start hand₀)); counts = omega arith }
+module _ (acc : Link → Bool) (hold : List Entry) (i : ℕ) (hand : List Ref) where
+  pub following_start : (first : Option ℕ) → Next (at_place i hold) (length hold) 0 first → Following acc hold i hand first 0
+  following_start first n = record { k = 0; below = omega arith; next = n; goes = refl; counts = refl }
 
-  pub following_end : (at out : ℕ) → used ≤ length hold → at ≡ 0 → Following acc hold used i start hand₀ hand at out → (handed out hand ≡ handed start hand₀ ++ filter (goes_out acc i) (lying used hold)) × (out ≡ start + length (filter (goes_out acc i) (lying used hold)))
-  following_end at out l z f = go f.next
-    where
-      go : Next (at_place i hold) used f.k at → (handed out hand ≡ handed start hand₀ ++ filter (goes_out acc i) (lying used hold)) × (out ≡ start + length (filter (goes_out acc i) (lying used hold)))
-      go (inr t) = absurd (let q = t.1 in omega arith)
-      go (inl t) =
-          let e = skip_to acc hold i f.k used f.below l t.1 in
-          (f.goes ∙ ap (λ x. handed start hand₀ ++ x) (sym e), f.counts ∙ ap (λ x. start + length x) (sym e))
+  pub following_end : (at : Option ℕ) (out : ℕ) → at ≡ None → Following acc hold i hand at out → (handed out hand ≡ filter (goes_out acc i) (map edge_of hold)) × (out ≡ length (filter (goes_out acc i) (map edge_of hold)))
+  following_end at out z f =
+      let v = subst (Next (at_place i hold) (length hold) f.k) z f.next in
+      let all = ap (λ l. filter (goes_out acc i) (map edge_of l)) (sym (take-length hold)) ∙ skip_to acc hold i f.k (length hold) f.below (omega arith) v in
+      (f.goes ∙ sym all, f.counts ∙ ap length (sym all))
 
-  module _ (at out : ℕ) (l : used ≤ length hold) (lk : Linked i used hold) (nz : at ≡ 0 → ⊥) (f : Following acc hold used i start hand₀ hand at out) where
-    here : (j : ℕ) × (at ≡ suc j) × (f.k ≤ j) × (j < used) × (at_place i hold j ≡ true) × Void (at_place i hold) f.k j
-    here = go f.next
-      where
-        go : Next (at_place i hold) used f.k at → (j : ℕ) × (at ≡ suc j) × (f.k ≤ j) × (j < used) × (at_place i hold j ≡ true) × Void (at_place i hold) f.k j
-        go (inl t) = absurd (nz t.0)
-        go (inr t) = t
+  module _ (at : Option ℕ) (out j : ℕ) (q : at ≡ Some j) (lk : Linked i (length hold) hold) (f : Following acc hold i hand at out) where
+    here : (f.k ≤ j) × (j < length hold) × (at_place i hold j ≡ true) × Void (at_place i hold) f.k j
+    here = subst (Next (at_place i hold) (length hold) f.k) q f.next
 
-    pub place_ok : at - 1 < length hold
-    place_ok = let p = here.1 in let q = here.3 in omega arith
+    pub place_ok : j < length hold
+    place_ok = here.1
 
-    module _ (h : Entry) (he : h ≡ get_or hold (at - 1) h) where
-      at-is : at - 1 ≡ here.0
-      at-is = let p = here.1 in omega arith
+    module _ (h : Entry) (own : h ≡ get_or hold j h) where
+      mine : at_index i (links (edge_of h)) ≡ true
+      mine = sym (at_read i hold j h here.1 own) ∙ here.2
 
-      hj : h ≡ get_or hold here.0 h
-      hj = subst (λ x. h ≡ get_or hold x h) at-is he
+      after : Next (at_place i hold) (length hold) (j + 1) h.next
+      after = let e : suc j ≡ j + 1 = omega arith in subst (λ x. Next (at_place i hold) (length hold) x h.next) e (subst (Next (at_place i hold) (length hold) (suc j)) (next_read hold j h here.1 own) (lk j here.1 here.2))
 
-      low : here.0 < length hold
-      low = let q = here.3 in omega arith
+      k_next : filter (goes_out acc i) (lying (j + 1) hold) ≡ filter (goes_out acc i) (lying f.k hold) ++ cond (wanted acc (links (edge_of h))) (edge_of h ∷ []) []
+      k_next = more acc hold i j h here.1 own ∙ ap (λ b. filter (goes_out acc i) (lying j hold) ++ cond (b && wanted acc (links (edge_of h))) (edge_of h ∷ []) []) mine ∙ ap (λ x. x ++ cond (wanted acc (links (edge_of h))) (edge_of h ∷ []) []) (skip_to acc hold i f.k j here.0 (omega (arith, here.1)) here.3)
 
-      own : at_index i (links (edge_of h)) ≡ true
-      own = sym (at_read i hold here.0 h low hj) ∙ here.4
-
-      after : Next (at_place i hold) used (here.0 + 1) h.next
-      after = let e : suc here.0 ≡ here.0 + 1 = omega arith in subst (λ x. Next (at_place i hold) used x h.next) e (subst (Next (at_place i hold) used (suc here.0)) (next_read hold here.0 h low hj) (lk here.0 here.3 here.4))
-
-      k_next : filter (goes_out acc i) (lying (here.0 + 1) hold) ≡ filter (goes_out acc i) (lying f.k hold) ++ cond (wanted acc (links (edge_of h))) (edge_of h ∷ []) []
-      k_next = more acc hold i here.0 h low hj ∙ ap (λ b. filter (goes_out acc i) (lying here.0 hold) ++ cond (b && wanted acc (links (edge_of h))) (edge_of h ∷ []) []) own ∙ ap (λ x. x ++ cond (wanted acc (links (edge_of h))) (edge_of h ∷ []) []) (skip_to acc hold i f.k here.0 here.2 (omega (arith, low)) here.5)
-
-      less : left_to used h.next < left_to used at
-      less = subst (λ x. left_to used h.next < left_to used x) (sym here.1) (go h.next after)
+      less : left_to (length hold) h.next < left_to (length hold) at
+      less = subst (λ x. left_to (length hold) h.next < left_to (length hold) x) (sym q) (go h.next after)
         where
-          go : (n : ℕ) → Next (at_place i hold) used (here.0 + 1) n → left_to used n < suc used - suc here.0
-          go zero w = let q = here.3 in omega arith
-          go (suc m) (inl w) = absurd (let z = w.0 in omega arith)
-          go (suc m) (inr w) = let q = w.1 in let r = w.2 in let s = w.3 in omega arith
+          go : (o : Option ℕ) → Next (at_place i hold) (length hold) (j + 1) o → left_to (length hold) o < length hold - j
+          go None w = let x = here.1 in omega arith
+          go (Some m) w = let x = w.0 in let y = w.1 in omega arith
 
-      following_no : wanted acc (links (edge_of h)) ≡ false → Following acc hold used i start hand₀ hand h.next out
+      following_no : wanted acc (links (edge_of h)) ≡ false → Following acc hold i hand h.next out
       following_no n =
           let e = k_next ∙ ap (λ b. filter (goes_out acc i) (lying f.k hold) ++ cond b (edge_of h ∷ []) []) n ∙ append-nil (filter (goes_out acc i) (lying f.k hold)) in
-          record { k = here.0 + 1; below = omega (arith, here.3); next = after; goes = f.goes ∙ ap (λ x. handed start hand₀ ++ x) (sym e); counts = f.counts ∙ ap (λ x. start + length x) (sym e) }
+          record { k = j + 1; below = omega (arith, here.1); next = after; goes = f.goes ∙ sym e; counts = f.counts ∙ ap length (sym e) }
 
-      yes_k : wanted acc (links (edge_of h)) ≡ true → filter (goes_out acc i) (lying (here.0 + 1) hold) ≡ filter (goes_out acc i) (lying f.k hold) ++ edge_of h ∷ []
+      yes_k : wanted acc (links (edge_of h)) ≡ true → filter (goes_out acc i) (lying (j + 1) hold) ≡ filter (goes_out acc i) (lying f.k hold) ++ edge_of h ∷ []
       yes_k y = k_next ∙ ap (λ b. filter (goes_out acc i) (lying f.k hold) ++ cond b (edge_of h ∷ []) []) y
 
-      room_ok : (size : ℕ) → start + length (filter (goes_out acc i) (lying used hold)) ≤ size → wanted acc (links (edge_of h)) ≡ true → out < size
+      room_ok : (size : ℕ) → length (filter (goes_out acc i) (map edge_of hold)) ≤ size → wanted acc (links (edge_of h)) ≡ true → out < size
       room_ok size r y =
           let a = ap length (yes_k y) in
           let b = length-append (filter (goes_out acc i) (lying f.k hold)) (edge_of h ∷ []) in
-          let e : (here.0 + 1) + (used - (here.0 + 1)) ≡ used = omega (arith, here.3) in
-          let g = subst (λ x. x ≤ length hold → length (K acc hold i (here.0 + 1)) ≤ length (K acc hold i x)) e (λ w. grows acc hold i (here.0 + 1) (used - (here.0 + 1)) w) l in
+          let e : (j + 1) + (length hold - (j + 1)) ≡ length hold = omega (arith, here.1) in
+          let g = grows acc hold i (j + 1) (length hold - (j + 1)) (omega (arith, here.1)) in
+          let l = ap (λ x. length (K acc hold i x)) e in
+          let w = ap (λ l. length (filter (goes_out acc i) (map edge_of l))) (take-length hold) in
           let c = f.counts in
           omega arith
 
-      following_yes : wanted acc (links (edge_of h)) ≡ true → out < length hand → Following acc hold used i start hand₀ (set hand out h.edge) h.next (out + 1)
+      following_yes : wanted acc (links (edge_of h)) ≡ true → out < length hand → Following acc hold i (set hand out h.edge) h.next (out + 1)
       following_yes y lt =
           let a = ap length (yes_k y) in
           let b = length-append (filter (goes_out acc i) (lying f.k hold)) (edge_of h ∷ []) in
           let c = f.counts in
           record {
-            k = here.0 + 1;
-            below = omega (arith, here.3);
+            k = j + 1;
+            below = omega (arith, here.1);
             next = after;
-            goes = handed_more hand out h.edge lt ∙ ap (λ x. x ++ edge_of h ∷ []) f.goes ∙ append_assoc (handed start hand₀) (filter (goes_out acc i) (lying f.k hold)) (edge_of h ∷ []) ∙ ap (λ x. handed start hand₀ ++ x) (sym (yes_k y));
+            goes = handed_more hand out h.edge lt ∙ ap (λ x. x ++ edge_of h ∷ []) f.goes ∙ sym (yes_k y);
             counts = omega arith;
           }
 
     -- what a turn needs: the entry at the link is there, and whether or not it goes out, the turn leads on
     pub record Turn (size : ℕ) (h : Entry) : Type 0 where
-      pub less : left_to used h.next < left_to used at
+      pub less : left_to (length hold) h.next < left_to (length hold) at
       pub room : wanted acc (links (edge_of h)) ≡ true → out < size
-      pub refused : wanted acc (links (edge_of h)) ≡ false → Following acc hold used i start hand₀ hand h.next out
-      pub goes_on : wanted acc (links (edge_of h)) ≡ true → Following acc hold used i start hand₀ (set hand out h.edge) h.next (out + 1)
+      pub refused : wanted acc (links (edge_of h)) ≡ false → Following acc hold i hand h.next out
+      pub goes_on : wanted acc (links (edge_of h)) ≡ true → Following acc hold i (set hand out h.edge) h.next (out + 1)
 
-    pub turned : (size : ℕ) → start + length (filter (goes_out acc i) (lying used hold)) ≤ size → length hand ≡ size → Turn size (get_or hold (at - 1) nothing)
-    turned size room sized =
-        let h = get_or hold (at - 1) nothing in
-        let own = get_or_default hold (at - 1) nothing h place_ok in
+    pub turned : (size : ℕ) (d : Entry) → length (filter (goes_out acc i) (map edge_of hold)) ≤ size → length hand ≡ size → Turn size (get_or hold j d)
+    turned size d room sized =
+        let h = get_or hold j d in
+        let own = get_or_default hold j d h place_ok in
         record {
           less = less h own;
           room = room_ok h own size room;

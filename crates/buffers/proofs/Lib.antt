@@ -1,9 +1,9 @@
 pub mod Chaining
-pub mod Meeting
 pub mod Arriving
 pub mod Following
 pub mod Releasing
-pub mod Fairness
+pub mod Leading
 pub mod Telling
+pub mod Fairness
 pub mod Beginning
 pub mod Building

@@ -1,17 +1,21 @@
 -- What an index makes of its release node being told. Assumes nothing.
-use Rattle.std.proofs.Common.{◌≡◌, ℕ, ◌+◌, ◌<◌, ◌≤◌, Bool, true, false, cond, not, ◌&&◌, T, eqb, ◌⊎◌, List, [], ◌∷◌, ◌++◌, length, Some, None, filter, Option, sym, refl, ap, ◌∙◌, subst, inl, inr, true≢false, arith, eqb→eq, length-set, get_or-set_other, get_or-set_same}
+use Rattle.std.proofs.Common.{◌≡◌, ℕ, zero, suc, ◌<◌, ◌≤◌, Bool, true, false, cond, not, ◌&&◌, T, eqb, ◌⊎◌, List, [], ◌∷◌, map, length, take, set, Some, None, filter, Option, sym, refl, ap, ◌∙◌, subst, inl, inr, true≢false, arith, eqb→eq, length-set, get_or-set_other, get_or-set_same}
+use Rattle.std.proofs.lemmas.List.{length-take-le}
 use Rattle.buffers.specs.Rules.{links, wanted, at_index, goes_out}
-use Rattle.buffers.specs.Buffers.{Ref, Entry, handed, is_out, state_of, waits_in, held_one, lying, held_in, at_place, Next, Linked, Chained, Met, Moved}
+use Rattle.buffers.specs.Buffers.{Entry, edge_of, is_out, state_of, waits_in, held_one, lying, held_in, at_place, next_of, Next, Linked, Chained, Met, Moved}
 use Rattle.index.specs.declared.links.Link.{Link}
 use Rattle.theory.specs.Edges.{Edge}
 use Rattle.index.specs.declared.records.FeatureEdge.{FeatureEdge}
 use Rattle.index.specs.declared.links.EdgeLinks.{EdgeLinks}
 use Rattle.index.specs.declared.links.EdgeLinks.TheVariants.{NonWeak, Weak}
+use Rattle.buffers.specs.declared.states.Chain.{Chain}
 use Rattle.buffers.specs.declared.states.SingleBufferState.{SingleBufferState}
 use Rattle.buffers.specs.declared.states.SingleBufferState.TheVariants.{Buffered, Released}
 use Rattle.buffers.specs.declared.states.Event.TheVariants.{Told}
 use Rattle.buffers.specs.declared.states.Outcome.{Outcome}
 use Rattle.buffers.specs.declared.states.Outcome.TheVariants.{Holds, Judges, Frees, Nothing}
+use Rattle.buffers.proofs.Chaining.{next_same}
+use Rattle.buffers.proofs.Following.{skip_to}
 
 -- two sieves that agree on what p lets through
 pub kept_agree : {X : Type 0} (p q r : X → Bool) (xs : List X) → ((x : X) → p x ≡ true → q x ≡ r x) → filter p (filter q xs) ≡ filter p (filter r xs)
@@ -52,13 +56,27 @@ goes_held acc ss i e h = go (links e) h
         step true y false w = absurd (true≢false (sym w))
         step false y b w = absurd (true≢false (sym w))
 
--- an outcome that is another lets nothing out
-pub not_freed : (m : Outcome) → (m ≡ Holds) ⊎ ((m ≡ Judges) ⊎ (m ≡ Nothing)) → (x : ℕ) → m ≡ Frees x → ⊥
-not_freed m (inl p) x q = let z : ◌≡◌ {A = ℕ} 0 1 = cc in omega arith
-not_freed m (inr (inl p)) x q = let z : ◌≡◌ {A = ℕ} 0 1 = cc in omega arith
-not_freed m (inr (inr p)) x q = let z : ◌≡◌ {A = ℕ} 0 1 = cc in omega arith
+-- the front of a table, taken by itself, has the same places and links
+at_front : (i n : ℕ) (hold : List Entry) (k : ℕ) → k < n → at_place i (take n hold) k ≡ at_place i hold k
+at_front i zero hold k l = absurd (omega arith)
+at_front i (suc n) [] k l = refl
+at_front i (suc n) (h ∷ hs) zero l = refl
+at_front i (suc n) (h ∷ hs) (suc k) l = at_front i n hs k (omega arith)
 
-module _ (acc : Link → Bool) (nodes : List ℕ) (i : ℕ) (ss ss' : List SingleBufferState) (used used' : ℕ) (hold hold' : List Entry) (m : Outcome) (small : i < length ss) where
+next_front : (n : ℕ) (hold : List Entry) (k : ℕ) → k < n → next_of (take n hold) k ≡ next_of hold k
+next_front zero hold k l = absurd (omega arith)
+next_front (suc n) [] k l = refl
+next_front (suc n) (h ∷ hs) zero l = refl
+next_front (suc n) (h ∷ hs) (suc k) l = next_front n hs k (omega arith)
+
+-- a chain can be followed in the front of the table alone
+pub chain_in_front : (i used first : ℕ) (hold : List Entry) → used ≤ length hold → Next (at_place i hold) used 0 (Some first) → Linked i used hold → Next (at_place i (take used hold)) (length (take used hold)) 0 (Some first) × Linked i (length (take used hold)) (take used hold)
+chain_in_front i used first hold fits n l = subst (λ m. Next (at_place i (take used hold)) m 0 (Some first) × Linked i m (take used hold)) (sym (length-take-le used hold fits)) (
+  next_same (at_place i hold) (at_place i (take used hold)) used (at_front i used hold) 0 (Some first) n,
+  λ k h t. next_same (at_place i hold) (at_place i (take used hold)) used (at_front i used hold) (suc k) (next_of (take used hold) k) (subst (Next (at_place i hold) used (suc k)) (sym (next_front used hold k h)) (l k h (sym (at_front i used hold k h) ∙ t))),
+)
+
+module _ (acc : Link → Bool) (i : ℕ) (ss ss' : List SingleBufferState) (used used' : ℕ) (hold hold' : List Entry) (m : Outcome) (small : i < length ss) where
   -- the index was told of its node: it is released, and the table is as it was
   pub record Left : Type 0 where
     pub same : (used' ≡ used) × (hold' ≡ hold)
@@ -67,54 +85,48 @@ module _ (acc : Link → Bool) (nodes : List ℕ) (i : ℕ) (ss ss' : List Singl
   -- and what lies there for it, along its links, goes out
   pub record Opened (first : ℕ) : Type 0 where
     pub left : Left
-    pub next : Next (at_place i hold) used 0 first
-    pub linked : Linked i used hold
-    pub whole : filter (goes_out acc i) (held_in acc ss used hold) ≡ filter (goes_out acc i) (lying used hold)
+    pub chain : Next (at_place i (take used' hold')) (length (take used' hold')) 0 (Some first) × Linked i (length (take used' hold')) (take used' hold')
+    pub whole : filter (goes_out acc i) (map edge_of (take used' hold')) ≡ filter (goes_out acc i) (held_in acc ss used hold)
 
-  pub told_frees : (s : SingleBufferState) (first : ℕ) → state_of ss i ≡ s → Chained i used hold s → Met nodes i ss ss' used used' hold hold' s Told m → m ≡ Frees first → Opened first
-  told_frees Released first s c t is = absurd (let y = t.0 in let z : ◌≡◌ {A = ℕ} 0 1 = cc in omega arith)
-  told_frees (Buffered f l) first s c t is = record {
-    left = record {
-      same = (t.1, t.2);
-      moved = record {
-        long = ap length t.3 ∙ length-set ss i Released;
-        out = ap (λ v. is_out (state_of v i)) t.3 ∙ ap is_out (get_or-set_same ss i Released (Buffered 0 0) small);
-        others = λ j n. ap (λ v. state_of v j) t.3 ∙ get_or-set_other ss i j Released (Buffered 0 0) n;
-      };
+  -- what counts as held of an index that is not released is all that lies there
+  all_held : (c : Option Chain) → state_of ss i ≡ Buffered c → filter (goes_out acc i) (held_in acc ss used hold) ≡ filter (goes_out acc i) (lying used hold)
+  all_held c s = kept_agree (goes_out acc i) (held_one acc ss) (λ _. true) (lying used hold) (λ x h. goes_held acc ss i x h ∙ ap (λ v. not (is_out v)) s) ∙ ap (filter (goes_out acc i)) (kept_true (lying used hold))
+
+  moves_on : (used' ≡ used) × (hold' ≡ hold) × (ss' ≡ set ss i Released) → Left
+  moves_on t = record {
+    same = (t.0, t.1);
+    moved = record {
+      long = ap length t.2 ∙ length-set ss i Released;
+      out = ap (λ v. is_out (state_of v i)) t.2 ∙ ap is_out (get_or-set_same ss i Released (Buffered None) small);
+      others = λ j n. ap (λ v. state_of v j) t.2 ∙ get_or-set_other ss i j Released (Buffered None) n;
     };
-    next = let y = t.0 in let e : f ≡ first = cc in subst (Next (at_place i hold) used 0) e c.0;
-    linked = c.2;
-    whole = kept_agree (goes_out acc i) (held_one acc ss) (λ _. true) (lying used hold) (λ x h. goes_held acc ss i x h ∙ ap (λ v. not (is_out v)) s) ∙ ap (filter (goes_out acc i)) (kept_true (lying used hold));
   }
 
-  pub told_again : (s : SingleBufferState) → state_of ss i ≡ s → Met nodes i ss ss' used used' hold hold' s Told m → ((first : ℕ) → m ≡ Frees first → ⊥) → Left × (filter (goes_out acc i) (held_in acc ss used hold) ≡ [])
-  told_again (Buffered f l) s t none = absurd (none f t.0)
-  told_again Released s t none = (
+  pub told_frees : (s : SingleBufferState) (first : ℕ) → used ≤ length hold → state_of ss i ≡ s → Chained i used hold s → Met i ss ss' used used' hold hold' s Told m → m ≡ Frees first → Opened first
+  told_frees Released first fits s c t is = absurd (let y = t.0 in cc)
+  told_frees (Buffered None) first fits s c t is = absurd (let y = t.0 in cc)
+  told_frees (Buffered (Some d)) first fits s c t is = record {
+    left = moves_on (t.1, t.2, t.3);
+    chain =
+        let y = t.0 in
+        let e : d.first ≡ first = cc in
+        let n = subst (λ v. Next (at_place i hold) used 0 (Some v)) e c.0 in
+        subst (λ l. Next (at_place i l) (length l) 0 (Some first) × Linked i (length l) l) (sym front) (chain_in_front i used first hold fits n c.2);
+    whole = ap (λ l. filter (goes_out acc i) (map edge_of l)) front ∙ sym (all_held (Some d) s);
+  }
+    where
+      front : take used' hold' ≡ take used hold
+      front = λ j. take (t.1 j) (t.2 j)
+
+  pub told_otherwise : (s : SingleBufferState) → used ≤ length hold → state_of ss i ≡ s → Chained i used hold s → Met i ss ss' used used' hold hold' s Told m → (m ≡ Holds) ⊎ ((m ≡ Judges) ⊎ (m ≡ Nothing)) → Left × (filter (goes_out acc i) (held_in acc ss used hold) ≡ [])
+  told_otherwise (Buffered (Some d)) fits s c t (inl q) = absurd (let y = t.0 in cc)
+  told_otherwise (Buffered (Some d)) fits s c t (inr (inl q)) = absurd (let y = t.0 in cc)
+  told_otherwise (Buffered (Some d)) fits s c t (inr (inr q)) = absurd (let y = t.0 in cc)
+  told_otherwise (Buffered None) fits s c t q = (moves_on (t.1, t.2, t.3), all_held None s ∙ skip_to acc hold i 0 used (omega arith) fits c)
+  told_otherwise Released fits s c t q = (
     record {
       same = (t.1, t.2);
       moved = record { long = ap length t.3; out = ap (λ v. is_out (state_of v i)) t.3 ∙ ap is_out s; others = λ j n. ap (λ v. state_of v j) t.3 };
     },
     kept_agree (goes_out acc i) (held_one acc ss) (λ _. false) (lying used hold) (λ x h. goes_held acc ss i x h ∙ ap (λ v. not (is_out v)) s) ∙ ap (filter (goes_out acc i)) (kept_false (lying used hold)),
   )
-
-  module _ (acc' : Link → Bool) (aq : acc' ≡ acc) (first : ℕ) (t : Opened first) where
-    whole' : filter (goes_out acc' i) (lying used' hold') ≡ filter (goes_out acc i) (held_in acc ss used hold)
-    whole' = (λ j. filter (goes_out (aq j) i) (lying (t.left.same.0 j) (t.left.same.1 j))) ∙ sym t.whole
-
-    pub ready_fits : used ≤ length hold → used' ≤ length hold'
-    ready_fits fits = let a = t.left.same.0 in let b = ap length t.left.same.1 in omega arith
-
-    pub ready_linked : Next (at_place i hold') used' 0 first × Linked i used' hold'
-    ready_linked = (
-      subst (λ v. Next (at_place i v) used' 0 first) (sym t.left.same.1) (subst (λ v. Next (at_place i hold) v 0 first) (sym t.left.same.0) t.next),
-      subst (λ v. Linked i used' v) (sym t.left.same.1) (subst (λ v. Linked i v hold) (sym t.left.same.0) t.linked),
-    )
-
-    pub ready_room : (out size : ℕ) → out + length (filter (goes_out acc i) (held_in acc ss used hold)) ≤ size → out + length (filter (goes_out acc' i) (lying used' hold')) ≤ size
-    ready_room out size h = let a = ap length whole' in omega arith
-
-    pub gone_out : (out r : ℕ) (hand hand' : List Ref) → handed r hand' ≡ handed out hand ++ filter (goes_out acc' i) (lying used' hold') → handed r hand' ≡ handed out hand ++ filter (goes_out acc i) (held_in acc ss used hold)
-    gone_out out r hand hand' h = h ∙ ap (λ v. handed out hand ++ v) whole'
-
-    pub gone_count : (out r : ℕ) → r ≡ out + length (filter (goes_out acc' i) (lying used' hold')) → r ≡ out + length (filter (goes_out acc i) (held_in acc ss used hold))
-    gone_count out r h = h ∙ ap (λ v. out + length v) whole'

@@ -1,18 +1,18 @@
 -- A node is told: how far the walk along its indexes has come, and what it comes to. Assumes nothing.
-use Rattle.std.proofs.Common.{◌≡◌, ℕ, zero, suc, ◌+◌, ◌-◌, ◌%◌, ◌<◌, ◌≤◌, Bool, true, false, cond, not, ◌&&◌, ◌||◌, T, eqb, List, [], ◌∷◌, ◌++◌, length, get_or, take, Some, None, filter, Option, sym, refl, ap, ◌∙◌, subst, inl, inr, true≢false, append-nil, arith, eqb→eq, length-append}
+use Rattle.std.proofs.Common.{◌≡◌, ℕ, zero, suc, ◌+◌, ◌-◌, ◌<◌, ◌≤◌, Bool, true, false, cond, not, ◌&&◌, ◌||◌, T, eqb, List, [], ◌∷◌, ◌++◌, length, get_or, map, take, Some, None, filter, Option, sym, refl, ap, ◌∙◌, subst, true≢false, append-nil, arith, eqb→eq, length-append}
 use native.Mathlib.Decide.{dec_lt, ℕ_discrete}
 use lib.Dec.{eqb_refl}
 use lib.ListN.{length-map}
 use Rattle.std.specs.List.{slice_get}
 use Rattle.std.proofs.lemmas.Option.{slice_get-get_or, slice_get_past}
-use Rattle.std.proofs.lemmas.List.{length-take-le}
+use Rattle.std.proofs.lemmas.List.{length-take-le, take-append-le, map-append}
 use Rattle.std.proofs.lemmas.List.Filters.{length-filter_both}
 use Rattle.theory.specs.Rules.{is_node, waits_on, stays_at}
 use Rattle.index.specs.declared.direction.DependencyDirection.{DependencyDirection}
 use Rattle.index.specs.declared.direction.DependencyDirection.TheVariants.{Forward, Reverse}
 use Rattle.filter.specs.Filters.{Discovers}
 use Rattle.buffers.specs.Rules.{links, waiting, wanted, goes_out, freed, feature_rule}
-use Rattle.buffers.specs.Buffers.{Ref, Entry, handed, is_out, state_of, told_by, waits_in, held_one, edge_of, lying, held_in, seek, in_bucket, Void, Next, Chained, Okay, Moved}
+use Rattle.buffers.specs.Buffers.{Ref, Entry, meaning, handed, is_out, state_of, told_by, waits_in, held_one, edge_of, lying, held_in, of_node, released, Void, Chained, Okay, Moved}
 use Rattle.index.specs.declared.links.Link.{Link}
 use Rattle.theory.specs.Edges.{Edge}
 use Rattle.index.specs.declared.records.FeatureEdge.{FeatureEdge}
@@ -20,7 +20,6 @@ use Rattle.index.specs.declared.links.EdgeLinks.{EdgeLinks}
 use Rattle.index.specs.declared.links.EdgeLinks.TheVariants.{NonWeak, Weak}
 use Rattle.buffers.specs.declared.states.SingleBufferState.{SingleBufferState}
 use Rattle.buffers.specs.declared.states.SingleBufferState.TheVariants.{Buffered, Released}
-use Rattle.buffers.proofs.Following.{left_to}
 use Rattle.buffers.proofs.Arriving.{Agree, told_at}
 use Rattle.buffers.proofs.Releasing.{kept_agree, kept_true, goes_held}
 use Rattle.buffers.proofs.Fairness.{freed_each, feature_fair}
@@ -33,36 +32,54 @@ not-true : (b : Bool) → (T b → ⊥) → b ≡ false
 not-true true h = absurd (h tt)
 not-true false h = refl
 
-pub seek_next : (at : ℕ → Bool) (k m : ℕ) → Next at (k + m) k (seek at k m)
-seek_next at k zero = inl (refl, λ i a b. absurd (omega arith))
-seek_next at k (suc m) = go (at k) refl (seek_next at (suc k) m)
-  where
-    go : (b : Bool) → at k ≡ b → Next at (suc k + m) (suc k) (seek at (suc k) m) → Next at (k + suc m) k (cond b (suc k) (seek at (suc k) m))
-    go true e r = inr (k, refl, omega arith, omega arith, e, λ i a b. absurd (omega arith))
-    go false e (inl t) = inl (t.0, λ i a b. first i a (ℕ_discrete i k) b)
-      where
-        first : (i : ℕ) → k ≤ i → Dec (i ≡ k) → i < k + suc m → at i ≡ false
-        first i a (yes y) b = ap at y ∙ e
-        first i a (no z) b = t.1 i (omega arith) (omega arith)
-    go false e (inr t) = inr (t.0, t.1, omega (arith, t.2), omega (arith, t.3), t.4, λ i a b. first i a (ℕ_discrete i k) b)
-      where
-        first : (i : ℕ) → k ≤ i → Dec (i ≡ k) → i < t.0 → at i ≡ false
-        first i a (yes y) b = ap at y ∙ e
-        first i a (no z) b = t.5 i (omega arith) b
+-- what the list of the indexes that a node releases says of its first, and of there being none
+abbrev First : List ℕ → ℕ → ℕ → ℕ → ℕ → List ℕ → Type 0
+First nodes n k end x xs = (k ≤ x) × (x < end) × (of_node nodes n x ≡ true) × Void (of_node nodes n) k x × (xs ≡ released nodes n (suc x) (end - suc x))
 
--- the index i is one that n releases
-abbrev of_node : List ℕ → ℕ → ℕ → Bool
-of_node nodes n i = eqb (get_or nodes i 0) n
-
--- where a bucket has no index, no node of the bucket has
-void_node : (nodes : List ℕ) (n k m : ℕ) → Void (in_bucket nodes (n % 4096)) k m → Void (of_node nodes n) k m
-void_node nodes n k m v i low high = go (eqb (get_or nodes i 0) n) refl
+released_first : (nodes : List ℕ) (n k m x : ℕ) (xs : List ℕ) → released nodes n k m ≡ x ∷ xs → First nodes n k (k + m) x xs
+released_first nodes n k zero x xs q = absurd cc
+released_first nodes n k (suc m) x xs q = go (of_node nodes n k) refl (released_first nodes n (suc k) m x xs) q
   where
-    go : (b : Bool) → eqb (get_or nodes i 0) n ≡ b → b ≡ false
-    go false e = refl
-    go true e =
-        let same : get_or nodes i 0 ≡ n = eqb→eq (get_or nodes i 0) n (subst T (sym e) tt) in
-        absurd (true≢false (sym (ap (λ x. eqb (x % 4096) (n % 4096)) same ∙ is_true _ (eqb_refl (n % 4096))) ∙ v i low high))
+    go : (b : Bool) → of_node nodes n k ≡ b → (released nodes n (suc k) m ≡ x ∷ xs → First nodes n (suc k) (suc k + m) x xs) → cond b (k ∷ released nodes n (suc k) m) (released nodes n (suc k) m) ≡ x ∷ xs → First nodes n k (k + suc m) x xs
+    go true e below q =
+        let y : k ≡ x = cc in
+        let r : released nodes n (suc k) m ≡ xs = cc in
+        let z : m ≡ (k + suc m) - suc k = omega arith in
+        (omega arith, omega arith, ap (of_node nodes n) (sym y) ∙ e, λ i a b. absurd (omega arith), sym r ∙ ap (released nodes n (suc k)) z ∙ ap (λ v. released nodes n (suc v) ((k + suc m) - suc v)) y)
+    go false e below q = one (below q)
+      where
+        one : First nodes n (suc k) (suc k + m) x xs → First nodes n k (k + suc m) x xs
+        one t =
+            let z : (suc k + m) - suc x ≡ (k + suc m) - suc x = omega arith in
+            (omega (arith, t.0), omega (arith, t.1), t.2, λ i a b. first i a (ℕ_discrete i k) b, t.4 ∙ ap (released nodes n (suc x)) z)
+          where
+            first : (i : ℕ) → k ≤ i → Dec (i ≡ k) → i < x → of_node nodes n i ≡ false
+            first i a (yes y) b = ap (of_node nodes n) y ∙ e
+            first i a (no z) b = t.3 i (omega arith) b
+
+released_none : (nodes : List ℕ) (n k m : ℕ) → released nodes n k m ≡ [] → Void (of_node nodes n) k (k + m)
+released_none nodes n k zero q = λ i a b. absurd (omega arith)
+released_none nodes n k (suc m) q = go (of_node nodes n k) refl (released_none nodes n (suc k) m) q
+  where
+    go : (b : Bool) → of_node nodes n k ≡ b → (released nodes n (suc k) m ≡ [] → Void (of_node nodes n) (suc k) (suc k + m)) → cond b (k ∷ released nodes n (suc k) m) (released nodes n (suc k) m) ≡ [] → Void (of_node nodes n) k (k + suc m)
+    go true e below q = absurd cc
+    go false e below q = λ i a b. here i a (ℕ_discrete i k) b
+      where
+        here : (i : ℕ) → k ≤ i → Dec (i ≡ k) → i < k + suc m → of_node nodes n i ≡ false
+        here i a (yes y) b = ap (of_node nodes n) y ∙ e
+        here i a (no z) b = below q i (omega arith) (omega arith)
+
+-- edges written behind those in the front of a hand-out table
+pub handed_behind : (hand more rest : List Ref) (out r : ℕ) → out ≤ length hand → r ≤ length more → handed (out + r) (take out hand ++ (more ++ rest)) ≡ handed out hand ++ handed r more
+handed_behind hand more rest out r low fits =
+    ap (map meaning) (take_behind (take out hand) (more ++ rest) out r (length-take-le out hand low) ∙ ap (λ l. take out hand ++ l) (take-append-le r more rest fits)) ∙ map-append meaning (take out hand) (take r more)
+  where
+    take_behind : (xs ys : List Ref) (k r : ℕ) → length xs ≡ k → take (k + r) (xs ++ ys) ≡ xs ++ take r ys
+    take_behind [] ys k r e = let z : k + r ≡ r = omega arith in ap (λ v. take v ys) z
+    take_behind (x ∷ xs) ys zero r e = absurd (omega arith)
+    take_behind (x ∷ xs) ys (suc k) r e =
+        let z : suc k + r ≡ suc (k + r) = omega arith in
+        ap (λ v. take v (x ∷ (xs ++ ys))) z ∙ ap (λ l. x ∷ l) (take_behind xs ys k r (omega arith))
 
 module _ (acc : Link → Bool) (nodes : List ℕ) (n : ℕ) (held : List (Edge FeatureEdge)) where
   skips : (k m : ℕ) → Void (of_node nodes n) k (k + m) → freed acc nodes n held (k + m) ≡ freed acc nodes n held k
@@ -106,11 +123,16 @@ held_few acc ss used hold h =
     let c = length-take-le used hold h in
     omega (arith, a, b, c)
 
--- the indexes below k are dealt with: those that n releases are released, and the others are as they were
-pub record Telling (acc : Link → Bool) (nodes : List ℕ) (n : ℕ) (ss₀ : List SingleBufferState) (held₀ : List (Edge FeatureEdge)) (ss : List SingleBufferState) (hand : List Ref) (at out : ℕ) : Type 0 where
+-- what an index lets out, where what it is let out of goes by other names
+pub same_out : (acc acc₁ : Link → Bool) (ss : List SingleBufferState) (used used₁ : ℕ) (hold hold₁ : List Entry) (i : ℕ) → acc₁ ≡ acc → used₁ ≡ used → hold₁ ≡ hold → filter (goes_out acc₁ i) (held_in acc₁ ss used₁ hold₁) ≡ filter (goes_out acc i) (held_in acc ss used hold)
+same_out acc acc₁ ss used used₁ hold hold₁ i a u h = λ j. filter (goes_out (a j) i) (held_in (a j) ss (u j) (h j))
+
+-- the indexes below k are dealt with: those that n releases are released, and the others are as they were; `indexes` are
+-- those still to come
+pub record Telling (acc : Link → Bool) (nodes : List ℕ) (n : ℕ) (ss₀ : List SingleBufferState) (held₀ : List (Edge FeatureEdge)) (ss : List SingleBufferState) (hand : List Ref) (indexes : List ℕ) (out : ℕ) : Type 0 where
   pub k : ℕ
   pub below : k ≤ length nodes
-  pub next : Next (in_bucket nodes (n % 4096)) (length nodes) k at
+  pub next : indexes ≡ released nodes n k (length nodes - k)
   pub goes : handed out hand ≡ freed acc nodes n held₀ k
   pub counts : out ≡ length (freed acc nodes n held₀ k)
   pub hit : (j : ℕ) → j < k → get_or nodes j 0 ≡ n → is_out (state_of ss j) ≡ true
@@ -118,19 +140,14 @@ pub record Telling (acc : Link → Bool) (nodes : List ℕ) (n : ℕ) (ss₀ : L
   pub long : length ss ≡ length ss₀
 
 module _ (acc : Link → Bool) (nodes : List ℕ) (n : ℕ) (ss₀ : List SingleBufferState) (used : ℕ) (hold : List Entry) where
-  abbrev bucket : ℕ → Bool
-  bucket = in_bucket nodes (n % 4096)
-
   abbrev held₀ : List (Edge FeatureEdge)
   held₀ = held_in acc ss₀ used hold
 
-  pub telling_start : (at : ℕ) (hand : List Ref) → at ≡ seek (in_bucket nodes (n % 4096)) 0 (length nodes - 0) → Telling acc nodes n ss₀ (held_in acc ss₀ used hold) ss₀ hand at 0
-  telling_start at hand e = record {
+  pub telling_start : (indexes : List ℕ) (hand : List Ref) → indexes ≡ released nodes n 0 (length nodes) → Telling acc nodes n ss₀ (held_in acc ss₀ used hold) ss₀ hand indexes 0
+  telling_start indexes hand e = record {
     k = 0;
     below = omega arith;
-    next =
-        let z : 0 + (length nodes - 0) ≡ length nodes = omega arith in
-        subst (Next bucket (length nodes) 0) (sym e) (subst (λ v. Next bucket v 0 (seek bucket 0 (length nodes - 0))) z (seek_next bucket 0 (length nodes - 0)));
+    next = let z : length nodes ≡ length nodes - 0 = omega arith in e ∙ ap (released nodes n 0) z;
     goes = refl;
     counts = refl;
     hit = λ j h. absurd (omega arith);
@@ -138,158 +155,93 @@ module _ (acc : Link → Bool) (nodes : List ℕ) (n : ℕ) (ss₀ : List Single
     long = refl;
   }
 
-  module _ (ss : List SingleBufferState) (hand : List Ref) (at out : ℕ) (t : Telling acc nodes n ss₀ (held_in acc ss₀ used hold) ss hand at out) where
-    module _ (nz : at ≡ 0 → ⊥) where
-      here : (j : ℕ) × (at ≡ suc j) × (t.k ≤ j) × (j < length nodes) × (bucket j ≡ true) × Void bucket t.k j
-      here = go t.next
-        where
-          go : Next bucket (length nodes) t.k at → (j : ℕ) × (at ≡ suc j) × (t.k ≤ j) × (j < length nodes) × (bucket j ≡ true) × Void bucket t.k j
-          go (inl w) = absurd (nz w.0)
-          go (inr w) = w
+  module _ (ss : List SingleBufferState) (hand : List Ref) (indexes : List ℕ) (out : ℕ) (t : Telling acc nodes n ss₀ (held_in acc ss₀ used hold) ss hand indexes out) where
+    module _ (i : ℕ) (rest : List ℕ) (q : indexes ≡ i ∷ rest) where
+      here : (t.k ≤ i) × (i < t.k + (length nodes - t.k)) × (of_node nodes n i ≡ true) × Void (of_node nodes n) t.k i × (rest ≡ released nodes n (suc i) ((t.k + (length nodes - t.k)) - suc i))
+      here = released_first nodes n t.k (length nodes - t.k) i rest (sym t.next ∙ q)
 
-      pub index_ok : at - 1 < length nodes
-      index_ok = let a = here.1 in let b = here.3 in omega arith
+      pub index_ok : i < length nodes
+      index_ok = let a = here.1 in let b = t.below in omega arith
 
-      at-is : at - 1 ≡ here.0
-      at-is = let a = here.1 in omega arith
+      node_is : get_or nodes i 0 ≡ n
+      node_is = eqb→eq (get_or nodes i 0) n (subst T (sym here.2) tt)
 
-      bucket_is : get_or nodes (at - 1) 0 % 4096 ≡ n % 4096
-      bucket_is = ap (λ v. get_or nodes v 0 % 4096) at-is ∙ eqb→eq (get_or nodes here.0 0 % 4096) (n % 4096) (subst T (sym here.4) tt)
-
-      pub state_is : state_of ss (at - 1) ≡ state_of ss₀ (at - 1)
-      state_is = t.miss (at - 1) (λ h e. let a = here.1 in let b = here.2 in omega arith)
+      state_is : state_of ss i ≡ state_of ss₀ i
+      state_is = t.miss i (λ h e. let a = here.0 in omega arith)
 
       -- what the index lets out is what it held at first
-      as_first : filter (goes_out acc (at - 1)) (held_in acc ss used hold) ≡ filter (goes_out acc (at - 1)) held₀
-      as_first = kept_agree (goes_out acc (at - 1)) (held_one acc ss) (held_one acc ss₀) (lying used hold) (λ x h. goes_held acc ss (at - 1) x h ∙ ap (λ v. not (is_out v)) state_is ∙ sym (goes_held acc ss₀ (at - 1) x h))
+      as_first : filter (goes_out acc i) (held_in acc ss used hold) ≡ filter (goes_out acc i) held₀
+      as_first = kept_agree (goes_out acc i) (held_one acc ss) (held_one acc ss₀) (lying used hold) (λ x h. goes_held acc ss i x h ∙ ap (λ v. not (is_out v)) state_is ∙ sym (goes_held acc ss₀ i x h))
 
-      freed_at : (b : Bool) → eqb (get_or nodes (at - 1) 0) n ≡ b → freed acc nodes n held₀ at ≡ freed acc nodes n held₀ t.k ++ cond b (filter (goes_out acc (at - 1)) held₀) []
-      freed_at b q =
-          let e : at ≡ suc (at - 1) = let a = here.1 in omega arith in
-          ap (freed acc nodes n held₀) e ∙ ap (λ v. freed acc nodes n held₀ (at - 1) ++ cond v (filter (goes_out acc (at - 1)) held₀) []) q
-          ∙ ap (λ l. l ++ cond b (filter (goes_out acc (at - 1)) held₀) []) (ap (freed acc nodes n held₀) at-is ∙ skip_to acc nodes n held₀ t.k here.0 here.2 (void_node nodes n t.k here.0 here.5))
+      freed_next : freed acc nodes n held₀ (i + 1) ≡ freed acc nodes n held₀ t.k ++ filter (goes_out acc i) held₀
+      freed_next =
+          let e : i + 1 ≡ suc i = omega arith in
+          ap (freed acc nodes n held₀) e ∙ ap (λ v. freed acc nodes n held₀ i ++ cond v (filter (goes_out acc i) held₀) []) here.2
+          ∙ ap (λ l. l ++ filter (goes_out acc i) held₀) (skip_to acc nodes n held₀ t.k i here.0 here.3)
 
-      below_at : at ≤ length nodes
-      below_at = let a = here.1 in let b = here.3 in omega arith
-
-      -- an index below the link that n releases was dealt with
-      inside : (j : ℕ) → j < at - 1 → get_or nodes j 0 ≡ n → j < t.k
+      -- an index below this one that n releases was dealt with
+      inside : (j : ℕ) → j < i → get_or nodes j 0 ≡ n → j < t.k
       inside j h e = go (dec_lt j t.k)
         where
           go : Dec (j < t.k) → j < t.k
           go (yes y) = y
-          go (no w) = absurd (true≢false (sym (ap (λ x. eqb (x % 4096) (n % 4096)) e ∙ is_true _ (eqb_refl (n % 4096))) ∙ here.5 j (omega arith) (let a = at-is in omega arith)))
+          go (no w) = absurd (true≢false (sym (is_true (of_node nodes n j) (subst (λ v. T (eqb (get_or nodes j 0) v)) e (eqb_refl (get_or nodes j 0)))) ∙ here.3 j (omega arith) h))
 
-      -- the link after this index
-      after : (at' : ℕ) → at' ≡ seek (in_bucket nodes (get_or nodes (at - 1) 0 % 4096)) ((at - 1) + 1) (length nodes - ((at - 1) + 1)) → Next bucket (length nodes) at at'
-      after at' ne =
-          let e : (at - 1) + 1 ≡ at = let a = here.1 in omega arith in
-          let f : ((at - 1) + 1) + (length nodes - ((at - 1) + 1)) ≡ length nodes = let a = here.1 in let b = here.3 in omega arith in
-          subst (Next bucket (length nodes) at) (sym (ne ∙ ap (λ v. seek (in_bucket nodes v) ((at - 1) + 1) (length nodes - ((at - 1) + 1))) bucket_is))
-          (subst (λ v. Next bucket (length nodes) v (seek bucket ((at - 1) + 1) (length nodes - ((at - 1) + 1)))) e
-          (subst (λ v. Next bucket v ((at - 1) + 1) (seek bucket ((at - 1) + 1) (length nodes - ((at - 1) + 1)))) f (seek_next bucket ((at - 1) + 1) (length nodes - ((at - 1) + 1)))))
+      pub index_chained : Okay nodes ss₀ used hold → Chained i used hold (state_of ss i)
+      index_chained ok = subst (Chained i used hold) (sym state_is) (ok.chained i index_ok)
 
-      pub telling_less : (at' : ℕ) → at' ≡ seek (in_bucket nodes (get_or nodes (at - 1) 0 % 4096)) ((at - 1) + 1) (length nodes - ((at - 1) + 1)) → left_to (length nodes) at' < left_to (length nodes) at
-      telling_less at' e = subst (λ v. left_to (length nodes) at' < left_to (length nodes) v) (sym here.1) (go at' (after at' e))
-        where
-          go : (m : ℕ) → Next bucket (length nodes) at m → left_to (length nodes) m < suc (length nodes) - suc here.0
-          go zero w = let q = here.3 in omega arith
-          go (suc m) (inl w) = absurd (let z = w.0 in omega arith)
-          go (suc m) (inr w) = let q = w.1 in let r = w.2 in let s = w.3 in let u = here.1 in omega arith
+      pub index_room : (size : ℕ) → used ≤ length hold → used ≤ size → out + length (filter (goes_out acc i) (held_in acc ss used hold)) ≤ size
+      index_room size f h =
+          let a = ap length as_first in
+          let b = ap length freed_next in
+          let c = length-append (freed acc nodes n held₀ t.k) (filter (goes_out acc i) held₀) in
+          let l = index_ok in
+          let d = few_to acc nodes n held₀ (i + 1) (omega arith) in
+          let e = held_few acc ss₀ used hold f in
+          let g = t.counts in
+          omega arith
 
-      -- an index that another node releases stays as it is
-      pub telling_past : (at' : ℕ) → (get_or nodes (at - 1) 0 ≡ n → ⊥) → at' ≡ seek (in_bucket nodes (get_or nodes (at - 1) 0 % 4096)) ((at - 1) + 1) (length nodes - ((at - 1) + 1)) → Telling acc nodes n ss₀ (held_in acc ss₀ used hold) ss hand at' out
-      telling_past at' other ne =
-          let q : eqb (get_or nodes (at - 1) 0) n ≡ false = not-true _ (λ x. other (eqb→eq (get_or nodes (at - 1) 0) n x)) in
-          let f = freed_at false q ∙ append-nil (freed acc nodes n held₀ t.k) in
-          record {
-            k = at;
-            below = below_at;
-            next = after at' ne;
-            goes = t.goes ∙ sym f;
-            counts = t.counts ∙ sym (ap length f);
-            hit = λ j h e. t.hit j (inside j (strict j h e (ℕ_discrete j (at - 1))) e) e;
-            miss = λ j h. t.miss j (λ a e. h (let b = here.1 in let c = here.2 in omega arith) e);
-            long = t.long;
-          }
-        where
-          strict : (j : ℕ) → j < at → get_or nodes j 0 ≡ n → Dec (j ≡ at - 1) → j < at - 1
-          strict j h e (yes y) = absurd (other (ap (λ v. get_or nodes v 0) (sym y) ∙ e))
-          strict j h e (no z) = omega arith
-
-      module _ (node_is : get_or nodes (at - 1) 0 ≡ n) where
-        freed_next : freed acc nodes n held₀ at ≡ freed acc nodes n held₀ t.k ++ filter (goes_out acc (at - 1)) held₀
-        freed_next = freed_at true (subst (λ v. eqb (get_or nodes (at - 1) 0) v ≡ true) node_is (is_true _ (eqb_refl (get_or nodes (at - 1) 0))))
-
-        room_ok : (size : ℕ) → used ≤ length hold → used ≤ size → out + length (filter (goes_out acc (at - 1)) (held_in acc ss used hold)) ≤ size
-        room_ok size f h =
+      pub telling_more : (ss' : List SingleBufferState) (hand' : List Ref) (out' : ℕ) → Moved i ss ss' → handed out' hand' ≡ handed out hand ++ filter (goes_out acc i) (held_in acc ss used hold) → out' ≡ out + length (filter (goes_out acc i) (held_in acc ss used hold)) → Telling acc nodes n ss₀ (held_in acc ss₀ used hold) ss' hand' rest out'
+      telling_more ss' hand' out' mv go co = record {
+        k = i + 1;
+        below = let l = index_ok in omega arith;
+        next = let l = index_ok in let b = t.below in let e : suc i ≡ i + 1 = omega arith in let z : (t.k + (length nodes - t.k)) - suc i ≡ length nodes - (i + 1) = omega arith in here.4 ∙ (λ j. released nodes n (e j) (z j));
+        goes = go ∙ (λ j. t.goes j ++ as_first j) ∙ sym freed_next;
+        counts =
             let a = ap length as_first in
             let b = ap length freed_next in
-            let c = length-append (freed acc nodes n held₀ t.k) (filter (goes_out acc (at - 1)) held₀) in
-            let d = few_to acc nodes n held₀ at below_at in
-            let e = held_few acc ss₀ used hold f in
+            let c = length-append (freed acc nodes n held₀ t.k) (filter (goes_out acc i) held₀) in
             let g = t.counts in
-            omega arith
-
-        pub req_chained : (used₁ : ℕ) (hold₁ : List Entry) → used₁ ≡ used → hold₁ ≡ hold → Okay nodes ss₀ used hold → Chained (at - 1) used₁ hold₁ (state_of ss (at - 1))
-        req_chained used₁ hold₁ a b ok = subst (λ v. Chained (at - 1) used₁ v (state_of ss (at - 1))) (sym b) (subst (λ v. Chained (at - 1) v hold (state_of ss (at - 1))) (sym a) (subst (Chained (at - 1) used hold) (sym state_is) (ok.chained (at - 1) index_ok)))
-
-        pub req_room : (acc₁ : Link → Bool) (used₁ : ℕ) (hold₁ : List Entry) (size : ℕ) → acc₁ ≡ acc → used₁ ≡ used → hold₁ ≡ hold → used ≤ length hold → used ≤ size → out + length (filter (goes_out acc₁ (at - 1)) (held_in acc₁ ss used₁ hold₁)) ≤ size
-        req_room acc₁ used₁ hold₁ size a b c f h =
-            let e = ap length (λ j. filter (goes_out (a j) (at - 1)) (held_in (a j) ss (b j) (c j))) in
-            let r = room_ok size f h in
-            omega arith
-
-        telling_more : (ss' : List SingleBufferState) (hand' : List Ref) (at' out' : ℕ) → Moved (at - 1) ss ss' → handed out' hand' ≡ handed out hand ++ filter (goes_out acc (at - 1)) (held_in acc ss used hold) → out' ≡ out + length (filter (goes_out acc (at - 1)) (held_in acc ss used hold)) → at' ≡ seek (in_bucket nodes (get_or nodes (at - 1) 0 % 4096)) ((at - 1) + 1) (length nodes - ((at - 1) + 1)) → Telling acc nodes n ss₀ (held_in acc ss₀ used hold) ss' hand' at' out'
-        telling_more ss' hand' at' out' mv go co ne = record {
-          k = at;
-          below = below_at;
-          next = after at' ne;
-          goes = go ∙ (λ j. t.goes j ++ as_first j) ∙ sym freed_next;
-          counts =
-              let a = ap length as_first in
-              let b = ap length freed_next in
-              let c = length-append (freed acc nodes n held₀ t.k) (filter (goes_out acc (at - 1)) held₀) in
-              let g = t.counts in
-              omega arith;
-          hit = λ j h e. hits j h e (ℕ_discrete j (at - 1));
-          miss = λ j h. misses j h (ℕ_discrete j (at - 1));
-          long = mv.long ∙ t.long;
-        }
-          where
-            hits : (j : ℕ) → j < at → get_or nodes j 0 ≡ n → Dec (j ≡ at - 1) → is_out (state_of ss' j) ≡ true
-            hits j h e (yes y) = ap (λ v. is_out (state_of ss' v)) y ∙ mv.out
-            hits j h e (no z) = ap is_out (mv.others j z) ∙ t.hit j (inside j (omega arith) e) e
-
-            misses : (j : ℕ) → (j < at → get_or nodes j 0 ≡ n → ⊥) → Dec (j ≡ at - 1) → state_of ss' j ≡ state_of ss₀ j
-            misses j h (yes y) = absurd (h (let a = here.1 in omega arith) (ap (λ v. get_or nodes v 0) y ∙ node_is))
-            misses j h (no z) = mv.others j z ∙ t.miss j (λ a e. h (let b = here.1 in let c = here.2 in omega arith) e)
-
-        pub more_by : (acc₁ : Link → Bool) (used₁ : ℕ) (hold₁ : List Entry) (ss' : List SingleBufferState) (hand' : List Ref) (at' out' : ℕ) → acc₁ ≡ acc → used₁ ≡ used → hold₁ ≡ hold → Moved (at - 1) ss ss' → handed out' hand' ≡ handed out hand ++ filter (goes_out acc₁ (at - 1)) (held_in acc₁ ss used₁ hold₁) → out' ≡ out + length (filter (goes_out acc₁ (at - 1)) (held_in acc₁ ss used₁ hold₁)) → at' ≡ seek (in_bucket nodes (get_or nodes (at - 1) 0 % 4096)) ((at - 1) + 1) (length nodes - ((at - 1) + 1)) → Telling acc nodes n ss₀ (held_in acc ss₀ used hold) ss' hand' at' out'
-        more_by acc₁ used₁ hold₁ ss' hand' at' out' a b c mv go co ne =
-            telling_more ss' hand' at' out' mv (go ∙ (λ j. handed out hand ++ filter (goes_out (a j) (at - 1)) (held_in (a j) ss (b j) (c j)))) (co ∙ (λ j. out + length (filter (goes_out (a j) (at - 1)) (held_in (a j) ss (b j) (c j))))) ne
-
-    module _ (z : at ≡ 0) (ok : Okay nodes ss₀ used hold) where
-      all : freed acc nodes n (held_in acc ss₀ used hold) (length nodes) ≡ freed acc nodes n (held_in acc ss₀ used hold) t.k
-      all = go t.next
+            omega arith;
+        hit = λ j h e. hits j h e (ℕ_discrete j i);
+        miss = λ j h. misses j h (ℕ_discrete j i);
+        long = mv.long ∙ t.long;
+      }
         where
-          go : Next bucket (length nodes) t.k at → freed acc nodes n (held_in acc ss₀ used hold) (length nodes) ≡ freed acc nodes n (held_in acc ss₀ used hold) t.k
-          go (inl w) = skip_to acc nodes n (held_in acc ss₀ used hold) t.k (length nodes) t.below (void_node nodes n t.k (length nodes) w.1)
-          go (inr w) = absurd (let a = w.1 in omega arith)
+          hits : (j : ℕ) → j < i + 1 → get_or nodes j 0 ≡ n → Dec (j ≡ i) → is_out (state_of ss' j) ≡ true
+          hits j h e (yes y) = ap (λ v. is_out (state_of ss' v)) y ∙ mv.out
+          hits j h e (no z) = ap is_out (mv.others j z) ∙ t.hit j (inside j (omega arith) e) e
 
+          misses : (j : ℕ) → (j < i + 1 → get_or nodes j 0 ≡ n → ⊥) → Dec (j ≡ i) → state_of ss' j ≡ state_of ss₀ j
+          misses j h (yes y) = absurd (h (omega arith) (ap (λ v. get_or nodes v 0) y ∙ node_is))
+          misses j h (no z) = mv.others j z ∙ t.miss j (λ a e. h (let b = here.0 in omega arith) e)
+
+    module _ (z : indexes ≡ []) (ok : Okay nodes ss₀ used hold) where
       void : Void (of_node nodes n) t.k (length nodes)
-      void = go t.next
-        where
-          go : Next bucket (length nodes) t.k at → Void (of_node nodes n) t.k (length nodes)
-          go (inl w) = void_node nodes n t.k (length nodes) w.1
-          go (inr w) = absurd (let a = w.1 in omega arith)
+      void =
+          let b = t.below in
+          let e : t.k + (length nodes - t.k) ≡ length nodes = omega arith in
+          subst (Void (of_node nodes n) t.k) e (released_none nodes n t.k (length nodes - t.k) (sym t.next ∙ z))
+
+      all : freed acc nodes n (held_in acc ss₀ used hold) (length nodes) ≡ freed acc nodes n (held_in acc ss₀ used hold) t.k
+      all = skip_to acc nodes n (held_in acc ss₀ used hold) t.k (length nodes) t.below void
 
       hit : (j : ℕ) → j < length nodes → get_or nodes j 0 ≡ n → is_out (state_of ss j) ≡ true
-      hit j h e = t.hit j (inside (dec_lt j t.k)) e
+      hit j h e = t.hit j (inside_all (dec_lt j t.k)) e
         where
-          inside : Dec (j < t.k) → j < t.k
-          inside (yes y) = y
-          inside (no w) = absurd (true≢false (sym (is_true (of_node nodes n j) (subst (λ v. T (eqb (get_or nodes j 0) v)) e (eqb_refl (get_or nodes j 0)))) ∙ void j (omega arith) h))
+          inside_all : Dec (j < t.k) → j < t.k
+          inside_all (yes y) = y
+          inside_all (no w) = absurd (true≢false (sym (is_true (of_node nodes n j) (subst (λ v. T (eqb (get_or nodes j 0) v)) e (eqb_refl (get_or nodes j 0)))) ∙ void j (omega arith) h))
 
       agree : Agree nodes ss
       agree a b la lb e = go (ℕ_discrete (get_or nodes a 0) n)
@@ -308,8 +260,8 @@ module _ (acc : Link → Bool) (nodes : List ℕ) (n : ℕ) (ss₀ : List Single
         where
           go : (i : ℕ) → i < length nodes → (s : SingleBufferState) → state_of ss i ≡ s → Dec (get_or nodes i 0 ≡ n) → Chained i used hold (state_of ss i)
           go i l Released e d = subst (Chained i used hold) (sym e) tt
-          go i l (Buffered f g) e (yes y) = absurd (true≢false (sym (hit i l y) ∙ ap is_out e))
-          go i l (Buffered f g) e (no w) = subst (Chained i used hold) (sym (t.miss i (λ h q. w q))) (ok.chained i l)
+          go i l (Buffered c) e (yes y) = absurd (true≢false (sym (hit i l y) ∙ ap is_out e))
+          go i l (Buffered c) e (no w) = subst (Chained i used hold) (sym (t.miss i (λ h q. w q))) (ok.chained i l)
 
       tells : (w j : ℕ) → j < length nodes → get_or nodes j 0 ≡ w → told_by nodes ss w ≡ (told_by nodes ss₀ w || eqb w n)
       tells w j l e = subst (λ v. told_by nodes ss v ≡ (told_by nodes ss₀ v || eqb v n)) e (go (ℕ_discrete (get_or nodes j 0) n))
@@ -384,7 +336,7 @@ module _ (acc : Link → Bool) (nodes : List ℕ) (n : ℕ) (ss₀ : List Single
       rest : held_in acc ss used hold ≡ filter (stays_at (feature_rule acc nodes Forward) n) (held_in acc ss₀ used hold)
       rest = (λ j. filter (λ x. one (links x) j) (lying used hold)) ∙ sym (kept_both (held_one acc ss₀) (stays_at (feature_rule acc nodes Forward) n) (lying used hold))
 
-      told_all : Discovers (feature_rule acc nodes Forward) n (told_by nodes ss₀) (told_by nodes ss) (held_in acc ss₀ used hold) (held_in acc ss used hold) (handed out hand)
+      pub told_all : Discovers (feature_rule acc nodes Forward) n (told_by nodes ss₀) (told_by nodes ss) (held_in acc ss₀ used hold) (held_in acc ss used hold) (handed out hand)
       told_all = record {
         tells = λ e w q. let p = place_of w (links e) q in tells w p.0 p.1 p.2;
         order = t.goes ∙ sym all;
@@ -394,14 +346,6 @@ module _ (acc : Link → Bool) (nodes : List ℕ) (n : ℕ) (ss₀ : List Single
 
       pub told_fits : (size : ℕ) → used ≤ size → out ≤ size
       told_fits size h = let a = t.counts in let b = few_to acc nodes n (held_in acc ss₀ used hold) t.k t.below in let c = held_few acc ss₀ used hold ok.fits in omega arith
-
-      pub okay_by : (nodes₁ : List ℕ) (used₁ : ℕ) (hold₁ : List Entry) → nodes₁ ≡ nodes → used₁ ≡ used → hold₁ ≡ hold → Okay nodes₁ ss used₁ hold₁
-      okay_by nodes₁ used₁ hold₁ a b c = subst (λ v. Okay nodes₁ ss used₁ v) (sym c) (subst (λ v. Okay nodes₁ ss v hold) (sym b) (subst (λ v. Okay v ss used hold) (sym a) told_okay))
-
-      pub all_by : (acc₁ : Link → Bool) (nodes₁ : List ℕ) (used₁ : ℕ) (hold₁ : List Entry) → acc₁ ≡ acc → nodes₁ ≡ nodes → used₁ ≡ used → hold₁ ≡ hold → Discovers (feature_rule acc nodes Forward) n (told_by nodes ss₀) (told_by nodes₁ ss) (held_in acc ss₀ used hold) (held_in acc₁ ss used₁ hold₁) (handed out hand)
-      all_by acc₁ nodes₁ used₁ hold₁ a d u h =
-          subst (λ v. Discovers (feature_rule acc nodes Forward) n (told_by nodes ss₀) (told_by v ss) (held_in acc ss₀ used hold) (held_in acc₁ ss used₁ hold₁) (handed out hand)) (sym d)
-          (subst (λ v. Discovers (feature_rule acc nodes Forward) n (told_by nodes ss₀) (told_by nodes ss) (held_in acc ss₀ used hold) v (handed out hand)) (sym (λ j. held_in (a j) ss (u j) (h j))) told_all)
 
 module _ (acc : Link → Bool) (nodes : List ℕ) (d : DependencyDirection) (n : ℕ) (told : ℕ → Bool) (held : List (Edge FeatureEdge)) where
   -- in Reverse nothing waits

@@ -7,8 +7,6 @@ ghost use Rattle.buffers.specs.Rules.{FeatureRuleIsFair};
 pub mod states;
 
 // The call runs nothing: its promise is the law.
-pub fn feature_rule_is_fair() -> u8
+pub fn feature_rule_is_fair()
     ensures { FeatureRuleIsFair }
-{
-    0
-}
+{}

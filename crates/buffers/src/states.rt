@@ -3,24 +3,30 @@ use graph::edge::EdgeRef;
 use index::records::FeatureEdge;
 use index::spec::FeatureIx;
 
-// Buffered: edges that wait for the index lie in the hold table, linked from entry `first - 1` on to entry `last - 1`; both
-// are 0 where none lies there. Released: the release node was told.
-#[derive(Clone, Copy)]
+// The edges that lie in the hold table for an index are linked, from the first to the last: their places.
+#[derive(Clone, Copy, PartialEq, Eq, Debug)]
+pub struct Chain {
+    pub first: usize,
+    pub last: usize,
+}
+
+// Buffered: the release node was not told, and edges wait for the index, if any. Released: it was told.
+#[derive(Clone, Copy, PartialEq, Eq, Debug)]
 pub enum SingleBufferState {
-    Buffered { first: usize, last: usize },
+    Buffered(Option<Chain>),
     Released,
 }
 
 // An edge with the index arrives, or the release node of the index is told.
-#[derive(Clone, Copy)]
+#[derive(Clone, Copy, PartialEq, Eq, Debug)]
 pub enum Event {
     Arrives(EdgeRef<FeatureIx, FeatureEdge>),
     Told,
 }
 
-// The edge is held; or its optional link is to be judged; or the edges from entry `first - 1` on go out, none where it is 0;
-// or nothing happens, as the release node was told before.
-#[derive(Clone, Copy)]
+// The edge is held; or its optional link is to be judged, as the release node was told before; or the edges from this place
+// on go out; or nothing does.
+#[derive(Clone, Copy, PartialEq, Eq, Debug)]
 pub enum Outcome {
     Holds,
     Judges,

@@ -2,18 +2,13 @@
 ghost use Rattle.std.specs.Prelude.{◌≡◌};
 ghost use Rattle.clients.specs.Firsts.{first_two};
 
+use graph::edges::Edges;
 use graph::graph::Graph;
 
 // The numbers of the first two edges that leave n.
 pub fn first_two<G: Graph>(graph: &G, n: G::Ix) -> (Option<u32>, Option<u32>)
     ensures { result ≡ first_two (G.outs graph.now (G.Ix.IndexType.number n)) }
 {
-    let mut c = graph.outgoing(n);
-    let Some(first) = graph.next(&mut c) else {
-        return (None, None);
-    };
-    match graph.next(&mut c) {
-        Some(second) => (Some(first.number), Some(second.number)),
-        None => (Some(first.number), None),
-    }
+    let mut numbers = Edges::outgoing(graph, n).map(|edge| edge.number);
+    (numbers.next(), numbers.next())
 }

@@ -1,22 +1,17 @@
 // Tests at the limits of a draft, and of edges that stand in both lists of one node.
 use crate::first_two::first_two;
-use crate::four_nodes::four_nodes;
+use crate::four_nodes::{Answers, four_nodes};
 use draft::draft::Draft;
 use graph::views::Reversed;
 use index::records::{FeatureEdge, PackageLink, WeakIndex};
-use index::refusal::Refusal;
+use index::refusal::{Refusal, Told};
 use index::spec::{FeatureGraphSpec, FeatureIx, IndexType, PackageGraphSpec, PackageIx};
 use std::test::Fail;
 
-// The number and the detail of a refusal, or (0, 0) of a call that was accepted.
-fn outcome<T: Drop>(r: Result<T, Refusal>) -> (u32, usize) {
-    match r {
-        Ok(_) => (0, 0),
-        Err(refusal) => {
-            let told = refusal.told();
-            (told.number, told.detail)
-        }
-    }
+// The number and the detail of the refusal, if the call was refused.
+fn refusal<T: Drop>(r: Result<T, Refusal>) -> Option<(u32, usize)> {
+    let told = Told::from(r.err()?);
+    Some((told.number, told.detail))
 }
 
 fn node(n: u32) -> PackageIx {
@@ -29,39 +24,51 @@ const LINK: PackageLink = PackageLink { mask: 1 };
 fn the_last_node_is_accepted_and_the_next_is_none(rt: HostRuntime) {
     let mut table = [0u32; 8216];
     let mut draft = Draft::new(&mut table, PackageGraphSpec);
-    assert_eq!(rt; outcome(draft.set_up(4097)), (1, 0));
-    assert_eq!(rt; outcome(draft.set_up(4096)), (0, 0));
+    assert_eq!(rt; refusal(draft.set_up(4097)), Some((1, 0)));
+    assert_eq!(rt; refusal(draft.set_up(4096)), None);
+    assert_eq!(rt; refusal(draft.add_edge(node(4095), node(4095), LINK)), None);
     assert_eq!(rt;
-        outcome(draft.add_edge(node(4095), node(4095), LINK)),
-        (0, 0)
+        refusal(draft.add_edge(node(4096), node(4096), LINK)),
+        Some((4, 0))
     );
     assert_eq!(rt;
-        outcome(draft.add_edge(node(4096), node(4096), LINK)),
-        (4, 0)
+        refusal(draft.add_edge(node(0), node(4096), LINK)),
+        Some((4, 1))
     );
-    assert_eq!(rt; outcome(draft.add_edge(node(0), node(4096), LINK)), (4, 1));
-    assert_eq!(rt; outcome(draft.add_pair(0, node(4096))), (4, 2));
+    assert_eq!(rt; refusal(draft.add_pair(0, node(4096))), Some((4, 2)));
 }
 
 #[test]
 fn a_word_short_is_refused(rt: HostRuntime) {
     let mut table = [0u32; 15];
     let mut draft = Draft::new(&mut table, PackageGraphSpec);
-    assert_eq!(rt; outcome(draft.set_up(8)), (2, 0));
-    assert_eq!(rt; outcome(draft.set_up(4)), (0, 0));
-    assert_eq!(rt; outcome(draft.add_edge(node(0), node(1), LINK)), (7, 0));
-    assert_eq!(rt; outcome(draft.set_up(3)), (0, 0));
-    assert_eq!(rt; outcome(draft.add_edge(node(0), node(1), LINK)), (0, 0));
-    assert_eq!(rt; outcome(draft.add_edge(node(0), node(1), LINK)), (7, 0));
+    assert_eq!(rt; refusal(draft.set_up(8)), Some((2, 0)));
+    assert_eq!(rt; refusal(draft.set_up(4)), None);
+    assert_eq!(rt;
+        refusal(draft.add_edge(node(0), node(1), LINK)),
+        Some((7, 0))
+    );
+    assert_eq!(rt; refusal(draft.set_up(3)), None);
+    assert_eq!(rt; refusal(draft.add_edge(node(0), node(1), LINK)), None);
+    assert_eq!(rt;
+        refusal(draft.add_edge(node(0), node(1), LINK)),
+        Some((7, 0))
+    );
 }
 
 #[test]
 fn a_draft_without_nodes_takes_nothing(rt: HostRuntime) {
     let mut table = [0u32; 16];
     let mut draft = Draft::new(&mut table, PackageGraphSpec);
-    assert_eq!(rt; outcome(draft.add_edge(node(0), node(0), LINK)), (4, 0));
-    assert_eq!(rt; outcome(draft.set_up(0)), (0, 0));
-    assert_eq!(rt; outcome(draft.add_edge(node(0), node(0), LINK)), (4, 0));
+    assert_eq!(rt;
+        refusal(draft.add_edge(node(0), node(0), LINK)),
+        Some((4, 0))
+    );
+    assert_eq!(rt; refusal(draft.set_up(0)), None);
+    assert_eq!(rt;
+        refusal(draft.add_edge(node(0), node(0), LINK)),
+        Some((4, 0))
+    );
     let graph = draft.finish();
     assert_eq!(rt; first_two(&graph, node(0)), (None, None));
 }
@@ -70,35 +77,26 @@ fn a_draft_without_nodes_takes_nothing(rt: HostRuntime) {
 fn the_last_pair_is_accepted_and_the_next_refused(rt: HostRuntime) -> Result<(), Fail> {
     let mut table = [0u32; 16];
     let mut draft = Draft::new(&mut table, FeatureGraphSpec);
-    assert_eq!(rt; outcome(draft.set_up(2)), (0, 0));
-    let mut last = 0;
+    assert_eq!(rt; refusal(draft.set_up(2)), None);
+    let mut last = None;
     for package_edge in 0..1024u32 {
-        let WeakIndex(index) = draft
-            .add_pair(package_edge.wrapping_mul(1024), FeatureIx::new(1))
-            .ok()
-            .ok_or("refused")?;
-        last = index;
+        last = Some(draft.add_pair(package_edge.wrapping_mul(1024), FeatureIx::new(1))?);
     }
-    assert_eq!(rt; last, 1023);
-    assert_eq!(rt; outcome(draft.add_pair(5, FeatureIx::new(1))), (6, 0));
-    let WeakIndex(old) = draft
-        .add_pair(1024, FeatureIx::new(0))
-        .ok()
-        .ok_or("refused")?;
-    assert_eq!(rt; old, 1);
+    assert_eq!(rt; last, Some(WeakIndex(1023)));
+    assert_eq!(rt; refusal(draft.add_pair(5, FeatureIx::new(1))), Some((6, 0)));
+    assert_eq!(rt; draft.add_pair(1024, FeatureIx::new(0)), Ok(WeakIndex(1)));
     let slash = FeatureEdge::WeakSlash {
         required: None,
         optional: 1,
         index: WeakIndex(1024),
     };
     assert_eq!(rt;
-        outcome(draft.add_edge(FeatureIx::new(0), FeatureIx::new(1), slash)),
-        (5, 0)
+        refusal(draft.add_edge(FeatureIx::new(0), FeatureIx::new(1), slash)),
+        Some((5, 0))
     );
     let graph = draft.finish();
-    let releases = graph.release_node(WeakIndex(1)).ok_or("not registered")?;
-    assert_eq!(rt; releases.index(), 1);
-    assert!(rt; graph.release_node(WeakIndex(1024)).is_none());
+    assert_eq!(rt; graph.release_node(WeakIndex(1)), Some(FeatureIx::new(1)));
+    assert_eq!(rt; graph.release_node(WeakIndex(1024)), None);
     Ok(())
 }
 
@@ -106,16 +104,16 @@ fn the_last_pair_is_accepted_and_the_next_refused(rt: HostRuntime) -> Result<(),
 fn the_last_edge_is_accepted_and_the_next_refused(rt: HostRuntime) -> Result<(), Fail> {
     let mut table = [0u32; 131_090];
     let mut draft = Draft::new(&mut table, PackageGraphSpec);
-    assert_eq!(rt; outcome(draft.set_up(1)), (0, 0));
-    let mut last = 0;
+    assert_eq!(rt; refusal(draft.set_up(1)), None);
+    let mut last = None;
     for _ in 0..16_384 {
-        last = draft
-            .add_edge(node(0), node(0), LINK)
-            .ok()
-            .ok_or("refused")?;
+        last = Some(draft.add_edge(node(0), node(0), LINK)?);
     }
-    assert_eq!(rt; last, 16_383);
-    assert_eq!(rt; outcome(draft.add_edge(node(0), node(0), LINK)), (7, 0));
+    assert_eq!(rt; last, Some(16_383));
+    assert_eq!(rt;
+        refusal(draft.add_edge(node(0), node(0), LINK)),
+        Some((7, 0))
+    );
     let graph = draft.finish();
     assert_eq!(rt; first_two(&graph, node(0)), (Some(16_383), Some(16_382)));
     Ok(())
@@ -125,10 +123,10 @@ fn the_last_edge_is_accepted_and_the_next_refused(rt: HostRuntime) -> Result<(),
 fn loops_and_parallel_edges_stand_in_both_lists(rt: HostRuntime) {
     let mut table = [0u32; 40];
     let mut draft = Draft::new(&mut table, PackageGraphSpec);
-    assert_eq!(rt; outcome(draft.set_up(2)), (0, 0));
-    assert_eq!(rt; outcome(draft.add_edge(node(0), node(0), LINK)), (0, 0));
-    assert_eq!(rt; outcome(draft.add_edge(node(0), node(1), LINK)), (0, 0));
-    assert_eq!(rt; outcome(draft.add_edge(node(0), node(1), LINK)), (0, 0));
+    assert_eq!(rt; refusal(draft.set_up(2)), None);
+    assert_eq!(rt; refusal(draft.add_edge(node(0), node(0), LINK)), None);
+    assert_eq!(rt; refusal(draft.add_edge(node(0), node(1), LINK)), None);
+    assert_eq!(rt; refusal(draft.add_edge(node(0), node(1), LINK)), None);
     let graph = draft.finish();
     assert_eq!(rt; first_two(&graph, node(0)), (Some(2), Some(1)));
     assert_eq!(rt; first_two(&Reversed(&graph), node(1)), (Some(2), Some(1)));
@@ -138,8 +136,12 @@ fn loops_and_parallel_edges_stand_in_both_lists(rt: HostRuntime) {
 #[test]
 fn four_nodes_answer_as_proved(rt: HostRuntime) {
     let mut table = [0u32; 32];
-    let answers = four_nodes(&mut table);
-    assert_eq!(rt; answers.out_of_0, (Some(2), Some(0)));
-    assert_eq!(rt; answers.into_3, (Some(1), None));
-    assert_eq!(rt; answers.without_2, (Some(0), None));
+    assert_eq!(rt;
+        four_nodes(&mut table),
+        Answers {
+            out_of_0: (Some(2), Some(0)),
+            into_3: (Some(1), None),
+            without_2: (Some(0), None),
+        }
+    );
 }

@@ -1,4 +1,4 @@
--- What each call of a draft does. A draft means its nodes, its edges (`laid`, the latest first) and its weak pairs.
+-- What each call of a draft does. A draft means its nodes, its edges (the latest first) and its weak pairs.
 -- set_up_refused, pair_refused, edge_refused: the first refusal that applies to a call, if one does.
 -- SetsUp, TakesPair, TakesEdge: the answer, and the draft after the call; after a refusal the draft and every word of its
 -- table are as they were.  Assumes nothing.
@@ -9,21 +9,8 @@ use Rattle.index.specs.declared.records.WeakIndex.{WeakIndex}
 use Rattle.index.specs.declared.refusal.Layer.TheVariants.{Graph}
 use Rattle.index.specs.declared.refusal.Refusal.{Refusal}
 use Rattle.index.specs.declared.refusal.Refusal.TheVariants.{TooManyNodes, TableTooShort, NoSuchNode, WeakIndexUnregistered, EdgesFull}
-use Rattle.weak.specs.declared.table.WeakDependencies.{WeakDependencies}
-use Rattle.weak.specs.Registered.{pairs, register, registered}
-use Rattle.draft.specs.declared.raw.Raw.{Raw}
-use Rattle.tables.specs.Table.{laid}
-
--- a draft: the words of its table, how many nodes and edges they hold, and the weak pairs
-pub record State : Type 0 where
-  pub words : List ℕ
-  pub nodes : ℕ
-  pub edges : ℕ
-  pub pairs : List Pair
-
--- a draft as the code holds it
-abbrev pub state_of : Raw → WeakDependencies → State
-state_of raw weak = record { words = raw.words.now; nodes = raw.nodes; edges = raw.edges; pairs = pairs weak }
+use Rattle.weak.specs.Registered.{register, registered}
+pub use Rattle.draft.specs.State.{State, edges_of}
 
 -- set-up
 
@@ -46,7 +33,7 @@ pair_refused nodes release = cond (nat_le nodes release) (Some (NoSuchNode Graph
 abbrev pub TakesPairBy : Option Refusal → State → Pair → Result WeakIndex Refusal → State → Type 0
 TakesPairBy (Some f) d pair r d' = (r ≡ Err f) × (d' ≡ d)
 TakesPairBy None d pair r d' =
-    (r ≡ register d.pairs pair) × (d' ≡ record { words = d.words; nodes = d.nodes; edges = d.edges; pairs = registered d.pairs pair })
+    (r ≡ register d.pairs pair) × (d' ≡ record d { pairs = registered d.pairs pair })
 
 -- the pair's index, by the list of pairs (which refuses an unknown package edge when it is full, and is then as it was)
 abbrev pub TakesPair : State → Pair → Result WeakIndex Refusal → State → Type 0
@@ -72,7 +59,7 @@ edge_refused d s t weak =
 
 -- the edge comes first of all edges, with the next number; nodes, pairs and the table's length stay
 pub record Added {W : Type 0} (held : List ℕ → W) (d : State) (s t : ℕ) (w : W) (d' : State) : Type 0 where
-  pub laid : laid held d'.words d'.nodes d'.edges ≡ record { source = s; target = t; number = d.edges; weight = w } ∷ laid held d.words d.nodes d.edges
+  pub laid : edges_of held d' ≡ record { source = s; target = t; number = d.edges; weight = w } ∷ edges_of held d
   pub edges : d'.edges ≡ d.edges + 1
   pub nodes : d'.nodes ≡ d.nodes
   pub pairs : d'.pairs ≡ d.pairs

@@ -1,18 +1,18 @@
-// The filter over feature edges.
+// The filter over feature edges: what it makes of an edge that it is asked about, and of a node that it is told.
 ghost use Rattle.std.specs.Prelude.{◌≡◌, ℕ, ◌≤◌, map};
 ghost use Rattle.theory.specs.Pairs.{Pair};
 ghost use Rattle.weak.specs.Registered.{pairs as pairs_of};
-ghost use Rattle.buffers.specs.Rules.{feature_rule};
+ghost use Rattle.buffers.specs.Rules.{feature_rule, needed};
 ghost use Rattle.buffers.specs.Buffers.{told_by, held_in, Okay};
+ghost use Rattle.buffers.proofs.Fairness.{feature_fair};
 
+use crate::releases::Releases;
 use crate::table::FeatureEdgeFilter;
-use buffers::feature_rule_is_fair;
-use buffers::states::SingleBufferState;
+use crate::weak_buffers::WeakBuffers;
 use filter::buffered::{BufferedEdgeFilter, Held};
 use graph::edge::EdgeRef;
 use index::direction::DependencyDirection;
-use index::limits::NODE_LIMIT;
-use index::links::edge_to_links;
+use index::links::{EdgeLinks, Link, edge_to_links};
 use index::records::FeatureEdge;
 use index::spec::{FeatureIx, IndexType};
 use verdict::verdict::Verdict;
@@ -27,24 +27,13 @@ impl<'a, V: Verdict> FeatureEdgeFilter<'a, V> {
     ) -> FeatureEdgeFilter<'a, V>
         ensures verdict { result.verdict ≡ verdict }
         ensures direction { result.direction ≡ direction }
-        ensures nodes { result.nodes.now ≡ map (λ (p : Pair). p.release) (pairs_of weak.now) }
+        ensures nodes { result.releases.nodes.now ≡ map (λ (p : Pair). p.release) (pairs_of weak.now) }
     {
-        let nodes = weak.releases();
-        let mut firsts = [0; 4096];
-        let mut nexts = [0; 1024];
-        for i in (0..nodes.len()).rev() {
-            let bucket = (nodes[i] % NODE_LIMIT) as usize;
-            nexts[i] = firsts[bucket];
-            firsts[bucket] = i as u32 + 1;
-        }
         FeatureEdgeFilter {
             verdict,
             direction,
-            nodes,
-            firsts,
-            nexts,
-            states: [SingleBufferState::Buffered { first: 0, last: 0 }; 1024],
-            used: 0,
+            releases: Releases::new(weak.releases()),
+            buffers: WeakBuffers::new(),
         }
     }
 }
@@ -54,26 +43,20 @@ impl<'a, V: Verdict> BufferedEdgeFilter for FeatureEdgeFilter<'a, V> {
 
     type Weight = FeatureEdge;
 
-    ghost rule = { λ s. feature_rule (V.Verdict.accepts s.verdict) s.nodes.now s.direction };
+    ghost rule = { λ s. feature_rule (V.Verdict.accepts s.verdict) s.releases.nodes.now s.direction };
 
-    ghost told = { λ s. told_by s.nodes.now s.states };
+    ghost told = { λ s. told_by s.releases.nodes.now s.buffers.states };
 
-    ghost held = { λ s hold. held_in (V.Verdict.accepts s.verdict) s.states s.used hold };
+    ghost held = { λ s hold. held_in (V.Verdict.accepts s.verdict) s.buffers.states s.buffers.used hold };
 
-    ghost used = { λ s. s.used };
+    ghost used = { λ s. s.buffers.used };
 
-    ghost fit = { λ s hold. Okay s.nodes.now s.states s.used hold };
+    ghost fit = { λ s hold. Okay s.releases.nodes.now s.buffers.states s.buffers.used hold };
 
-    fn fair(&self) {
-        feature_rule_is_fair();
-    }
+    ghost fair = { λ s. feature_fair (V.Verdict.accepts s.verdict) s.releases.nodes.now s.direction };
 
-    // The states of indexes that are not registered never change.
     fn begin(&mut self) {
-        for i in 0..self.nodes.len() {
-            self.states[i] = SingleBufferState::Buffered { first: 0, last: 0 };
-        }
-        self.used = 0;
+        self.buffers.begin(self.releases.nodes.len());
     }
 
     fn filter(
@@ -83,7 +66,26 @@ impl<'a, V: Verdict> BufferedEdgeFilter for FeatureEdgeFilter<'a, V> {
     ) -> bool {
         match edge_to_links(edge.number, edge.weight) {
             None => true,
-            Some(edge_links) => self.track(*edge, edge_links, hold),
+            Some(EdgeLinks::NonWeak(link)) => self.verdict.accept(link),
+            Some(
+                EdgeLinks::Weak {
+                    required,
+                    optional,
+                    index,
+                },
+            ) => {
+                // Both halves are dealt with, the required one first, and then joined: neither spares the other.
+                let now = judges(&mut self.verdict, required);
+                let later = match self.direction {
+                    DependencyDirection::Forward => {
+                        self.buffers
+                            .arrives(&self.releases, index.0 as usize, *edge, hold)
+                            && self.verdict.accept(optional)
+                    }
+                    DependencyDirection::Reverse => self.verdict.accept(optional),
+                };
+                now | later
+            }
         }
     }
 
@@ -93,10 +95,23 @@ impl<'a, V: Verdict> BufferedEdgeFilter for FeatureEdgeFilter<'a, V> {
         hold: &mut [Held<EdgeRef<FeatureIx, FeatureEdge>>],
         hand: &mut [EdgeRef<FeatureIx, FeatureEdge>],
     ) -> usize {
-        let direction = self.direction;
-        match direction {
-            DependencyDirection::Forward => self.tell(node.index(), hold, hand),
-            DependencyDirection::Reverse => 0,
+        match self.direction {
+            DependencyDirection::Forward => {
+                self.buffers.tell(&mut self.verdict, &self.releases, node.index(), hold, hand)
+            }
+            DependencyDirection::Reverse => 0, // nothing waits
         }
+    }
+}
+
+// Whether there is a required link, and it is accepted. (By a match: what is_some_and promises of a closure that is called
+// once doesn't say what the verdict keeps.)
+fn judges<V: Verdict>(verdict: &mut V, required: Option<Link>) -> bool
+    ensures answer { result ≡ needed (V.Verdict.accepts verdict.old) required }
+    ensures same { V.Verdict.accepts verdict.new ≡ V.Verdict.accepts verdict.old }
+{
+    match required {
+        Some(link) => verdict.accept(link),
+        None => false,
     }
 }

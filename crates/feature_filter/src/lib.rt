@@ -1,7 +1,9 @@
-// The filter over feature edges. `edge_filter` has the filter and its implementation of the trait, `weak_buffer` its weak buffers: how an
-// index meets an edge that arrives or the telling of its release node.
+// A filter over feature edges: an edge behind a weak slash waits on the release node of its index. `table` has the filter's
+// fields, `edge_filter` what it makes of edges and nodes, `releases` the indexes that a node releases, `weak_buffers` the
+// states of the indexes.
 #![tactic(auto)]
 
 pub mod edge_filter;
+pub(crate) mod releases;
 pub mod table;
-mod weak_buffer;
+pub(crate) mod weak_buffers;

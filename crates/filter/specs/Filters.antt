@@ -1,6 +1,7 @@
 -- Untold: no node that an edge waits on was told.  Discovers: what becomes of the told nodes and the held edges, and which
 -- edges are handed out, as a node is told.
--- by_link: the rule of a filter that a verdict decides.  turned_rule: a rule with edges turned round.  Assumes nothing.
+-- by_test: the rule that edges pass by a test.  by_link: the test of package edges that a verdict decides.
+-- turned_rule: a rule with edges turned round.  Assumes nothing.
 use Rattle.std.specs.Prelude.{◌≡◌, ℕ, Bool, false, List, map, None, filter}
 use Rattle.theory.specs.Edges.{Edge, turn}
 use Rattle.theory.specs.Rules.{Rule, Waits, Fair, stays_at, in_turn}
@@ -21,9 +22,13 @@ pub record Discovers {E : Type 0} (r : Rule E) (n : ℕ) (told told' : ℕ → B
   pub rest : held' ≡ filter (stays_at r n) held
   pub fair : Fair r
 
--- a package edge passes if its one link is accepted; nothing waits
-abbrev pub by_link : (Link → Bool) → Rule (Edge PackageLink)
-by_link accepts = in_turn (λ e. accepts (link e.number Whole e.weight.mask)) (λ _. None)
+-- nothing waits
+abbrev pub by_test : {E : Type 0} → (E → Bool) → Rule E
+by_test passes = in_turn passes (λ _. None)
+
+-- a package edge passes if its one link is accepted
+abbrev pub by_link : (Link → Bool) → Edge PackageLink → Bool
+by_link accepts e = accepts (link e.number Whole e.weight.mask)
 
 -- what the rule says of an edge, it says of that edge with its ends swapped
 abbrev pub turned_rule : {W : Type 0} → Rule (Edge W) → Rule (Edge W)

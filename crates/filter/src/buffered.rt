@@ -11,11 +11,11 @@ ghost use Rattle.filter.specs.Filters.{Untold, Discovers};
 use graph::edge::EdgeRef;
 use index::spec::IndexType;
 
-// An entry of a hold table: an edge, and what the filter that holds it likes to link it with.
-#[derive(Clone, Copy)]
+// An entry of a hold table: an edge, and the place of the entry that the filter links it with, if any.
+#[derive(Clone, Copy, PartialEq, Eq, Debug)]
 pub struct Held<E> {
     pub edge: E,
-    pub next: usize,
+    pub next: Option<usize>,
 }
 
 // Its meaning has a fixed part, the rule: which edges pass, which node an edge waits on, and in what order held edges go
@@ -39,10 +39,6 @@ pub trait BufferedEdgeFilter {
 
     // The filter and the hold table fit together.
     ghost fit: { Self → List (AnyHeld (AnyRef Self.Ix Self.Weight)) → Type 0 };
-
-    // What every rule keeps to. The call runs nothing: its promise is for the proof that makes it.
-    fn fair(&self)
-        ensures { Fair (rule self.now) };
 
     // Nothing is told, nothing is held.
     fn begin(&mut self)
@@ -82,4 +78,7 @@ pub trait BufferedEdgeFilter {
         ensures same { rule self.new ≡ rule self.old }
         ensures within { result ≤ length hand.old }
         ensures discovers { Discovers (rule self.old) (Self.Ix.IndexType.number node) (told self.old) (told self.new) (held self.old hold.old) (held self.new hold.new) (map (meant Self.Ix.IndexType.number) (take result hand.new)) };
+
+    // What every rule keeps to.
+    ghost fair: { (s : Self) → Fair (rule s) };
 }

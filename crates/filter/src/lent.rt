@@ -1,4 +1,4 @@
-// A filter that is lent, and one of two filters: filters of the same meaning.
+// A filter that is lent is a filter of the same meaning.
 ghost use Rattle.std.specs.Prelude.{◌≡◌};
 
 use crate::buffered::{BufferedEdgeFilter, Held};
@@ -20,9 +20,7 @@ impl<F: BufferedEdgeFilter> BufferedEdgeFilter for &mut F {
 
     ghost fit = { λ s. F.BufferedEdgeFilter.fit s.now };
 
-    fn fair(&self) {
-        (**self).fair();
-    }
+    ghost fair = { λ s. F.BufferedEdgeFilter.fair s.now };
 
     fn begin(&mut self) {
         (**self).begin();

@@ -1,8 +1,9 @@
 // A filter with every edge turned round, for walks over a reversed graph.
-ghost use Rattle.std.specs.Prelude.{◌≡◌, ℕ, ◌≤◌, List, map, length, take};
-ghost use Rattle.theory.specs.Edges.{turn};
+ghost use Rattle.std.specs.Prelude.{◌≡◌, map};
+ghost use Rattle.theory.specs.Edges.{turn as swapped};
 ghost use Rattle.graph.specs.Meaning.{turned_ref};
 ghost use Rattle.filter.specs.Filters.{turned_rule};
+ghost use Rattle.filter.specs.Turning.{turned_fair};
 
 use crate::buffered::{BufferedEdgeFilter, Held};
 use graph::edge::{EdgeRef, turned};
@@ -13,13 +14,12 @@ use index::spec::IndexType;
 #[derive(Drop)]
 pub struct ReversedBufferedFilter<F>(pub F);
 
-// Turns round the first edges of a table.
-fn turn_front<I: Copy, W: Copy>(edges: &mut [EdgeRef<I, W>], count: usize)
-    requires { count ≤ length edges.old }
-    ensures { take count edges.new ≡ map turned_ref (take count edges.old) }
+// Turns each edge round.
+fn turn<I: Copy, W: Copy>(edges: &mut [EdgeRef<I, W>])
+    ensures { edges.new ≡ map turned_ref edges.old }
 {
-    for i in 0..count {
-        edges[i] = turned(edges[i]);
+    for edge in edges.iter_mut() {
+        *edge = turned(*edge);
     }
 }
 
@@ -32,15 +32,13 @@ impl<F: BufferedEdgeFilter> BufferedEdgeFilter for ReversedBufferedFilter<F> {
 
     ghost told = { λ s. F.BufferedEdgeFilter.told s.0 };
 
-    ghost held = { λ s hold. map turn (F.BufferedEdgeFilter.held s.0 hold) };
+    ghost held = { λ s hold. map swapped (F.BufferedEdgeFilter.held s.0 hold) };
 
     ghost used = { λ s. F.BufferedEdgeFilter.used s.0 };
 
     ghost fit = { λ s. F.BufferedEdgeFilter.fit s.0 };
 
-    fn fair(&self) {
-        self.0.fair(); // and a fair rule stays fair as edges are turned
-    }
+    ghost fair = { λ s. turned_fair (F.BufferedEdgeFilter.rule s.0) (F.BufferedEdgeFilter.fair s.0) };
 
     fn begin(&mut self) {
         self.0.begin();
@@ -61,7 +59,7 @@ impl<F: BufferedEdgeFilter> BufferedEdgeFilter for ReversedBufferedFilter<F> {
         hand: &mut [EdgeRef<F::Ix, F::Weight>],
     ) -> usize {
         let count = self.0.discover(node, hold, hand);
-        turn_front(hand, count);
+        turn(&mut hand[..count]);
         count
     }
 }

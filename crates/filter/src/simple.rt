@@ -1,7 +1,10 @@
-// Filters that hold nothing: one by a verdict on package edges, one that passes every edge.
-ghost use Rattle.std.specs.Prelude.{◌≡◌, false, []};
-ghost use Rattle.theory.specs.Rules.{every};
-ghost use Rattle.filter.specs.Filters.{by_link};
+// A filter that holds nothing: it asks a test about each edge. Two tests: a verdict on package edges, and one that every edge
+// passes.
+ghost use Rattle.std.specs.Prelude.{◌≡◌, Bool, true, false, [], None as Nothing};
+ghost use Rattle.theory.specs.Edges.{Edge};
+ghost use Rattle.theory.proofs.Asking.{in_turn_fair};
+ghost use Rattle.graph.specs.Meaning.{meant};
+ghost use Rattle.filter.specs.Filters.{by_link, by_test};
 
 use crate::buffered::{BufferedEdgeFilter, Held};
 use graph::edge::EdgeRef;
@@ -11,45 +14,29 @@ use index::spec::{IndexType, PackageIx};
 use std::marker::PhantomData;
 use verdict::verdict::Verdict;
 
-// A package edge passes if the verdict accepts its link.
-#[derive(Drop)]
-pub struct SimpleEdgeFilterFn<V>(pub V);
+// Its meaning is a set of edges, and its answer says whether an edge is in the set.
+pub trait EdgeTest {
+    type Ix: IndexType;
 
-impl<V: Verdict> BufferedEdgeFilter for SimpleEdgeFilterFn<V> {
+    type Weight: Copy;
+
+    ghost passes: { Self → Edge Self.Weight → Bool };
+
+    fn pass(&mut self, edge: &EdgeRef<Self::Ix, Self::Weight>) -> bool
+        ensures answer { result ≡ passes self.old (meant Self.Ix.IndexType.number edge.now) }
+        ensures same { passes self.new ≡ passes self.old };
+}
+
+// A package edge passes if the verdict accepts its link.
+impl<V: Verdict> EdgeTest for V {
     type Ix = PackageIx;
 
     type Weight = PackageLink;
 
-    ghost rule = { λ s. by_link (V.Verdict.accepts s.0) };
+    ghost passes = { λ v. by_link (V.Verdict.accepts v) };
 
-    ghost told = { λ _ _. false };
-
-    ghost held = { λ _ _. [] };
-
-    ghost used = { λ _. 0 };
-
-    ghost fit = { λ _ _. Unit {0} };
-
-    fn fair(&self) {}
-
-    fn begin(&mut self) {}
-
-    fn filter(
-        &mut self,
-        edge: &EdgeRef<PackageIx, PackageLink>,
-        hold: &mut [Held<EdgeRef<PackageIx, PackageLink>>],
-    ) -> bool {
-        self.0
-            .accept(package_edge_to_link(edge.number, edge.weight))
-    }
-
-    fn discover(
-        &mut self,
-        node: PackageIx,
-        hold: &mut [Held<EdgeRef<PackageIx, PackageLink>>],
-        hand: &mut [EdgeRef<PackageIx, PackageLink>],
-    ) -> usize {
-        0 // nothing was held
+    fn pass(&mut self, edge: &EdgeRef<PackageIx, PackageLink>) -> bool {
+        self.accept(package_edge_to_link(edge.number, edge.weight))
     }
 }
 
@@ -57,12 +44,28 @@ impl<V: Verdict> BufferedEdgeFilter for SimpleEdgeFilterFn<V> {
 #[derive(Drop)]
 pub struct EveryEdge<I, W>(pub PhantomData<(I, W)>);
 
-impl<I: IndexType, W: Copy> BufferedEdgeFilter for EveryEdge<I, W> {
+impl<I: IndexType, W: Copy> EdgeTest for EveryEdge<I, W> {
     type Ix = I;
 
     type Weight = W;
 
-    ghost rule = { λ _. every };
+    ghost passes = { λ _ _. true };
+
+    fn pass(&mut self, edge: &EdgeRef<I, W>) -> bool {
+        true // of any edge
+    }
+}
+
+// An edge is handed out if it passes the test, and none waits.
+#[derive(Drop)]
+pub struct SimpleEdgeFilterFn<T>(pub T);
+
+impl<T: EdgeTest> BufferedEdgeFilter for SimpleEdgeFilterFn<T> {
+    type Ix = T::Ix;
+
+    type Weight = T::Weight;
+
+    ghost rule = { λ s. by_test (T.EdgeTest.passes s.0) };
 
     ghost told = { λ _ _. false };
 
@@ -72,20 +75,24 @@ impl<I: IndexType, W: Copy> BufferedEdgeFilter for EveryEdge<I, W> {
 
     ghost fit = { λ _ _. Unit {0} };
 
-    fn fair(&self) {}
+    ghost fair = { λ s. in_turn_fair (T.EdgeTest.passes s.0) (λ _. Nothing) };
 
     fn begin(&mut self) {}
 
-    fn filter(&mut self, edge: &EdgeRef<I, W>, hold: &mut [Held<EdgeRef<I, W>>]) -> bool {
-        true // of any edge
+    fn filter(
+        &mut self,
+        edge: &EdgeRef<T::Ix, T::Weight>,
+        hold: &mut [Held<EdgeRef<T::Ix, T::Weight>>],
+    ) -> bool {
+        self.0.pass(edge)
     }
 
     fn discover(
         &mut self,
-        node: I,
-        hold: &mut [Held<EdgeRef<I, W>>],
-        hand: &mut [EdgeRef<I, W>],
+        node: T::Ix,
+        hold: &mut [Held<EdgeRef<T::Ix, T::Weight>>],
+        hand: &mut [EdgeRef<T::Ix, T::Weight>],
     ) -> usize {
-        0 // and nothing waits
+        0 // nothing was held
     }
 }

@@ -11,7 +11,7 @@ pub struct EdgeRef<I, W> {
     pub weight: W,
 }
 
-// Where the edge comes from, where it goes, and its number.
+// Where the edge comes from, where it goes, and its number. The original's name: no `From` may be written for a tuple.
 pub fn edge_triple<I: Copy, W: Copy>(edge: EdgeRef<I, W>) -> (I, I, u32)
     ensures { (result.0 ≡ edge.source) × (result.1 ≡ edge.target) × (result.2 ≡ edge.number) }
 {

@@ -8,6 +8,7 @@ ghost use Rattle.index.specs.Records.{read_package_link, read_feature_edge, requ
 pub struct WeakIndex(pub u32);
 
 // A record that four words of a table can hold. Any four words hold some record; `encode` gives four that hold this one.
+// Not `From` and `Into`: the member `held` ties the two, which as two traits would need a law that repeats both.
 pub trait EdgeRecord: Copy {
     ghost held: { List ℕ → Self };
 
@@ -47,7 +48,7 @@ pub enum FeatureEdge {
 }
 
 impl FeatureEdge {
-    // The number of the form, from 0.
+    // The number of the form, from 0. A method and no `From`, since the number keeps nothing else of the edge.
     pub fn form(self) -> u32
         ensures { result ≡ form_of self }
     {

@@ -6,6 +6,7 @@ use crate::records::{EdgeRecord, FeatureEdge, PackageLink};
 use std::marker::PhantomData;
 
 // A node's index. Its meaning is a number, and no two indexes of one type have the same.
+// `new` and `index` have the original's names; `From` both ways would be two impls in place of this one.
 pub trait IndexType: Copy {
     ghost number: { Self → ℕ };
 

@@ -1,6 +1,6 @@
 // Two sets made, combined and listed: what their contracts say is enough to know every member.
 ghost use Rattle.std.specs.Prelude.{◌≡◌, [], ◌∷◌, MatchResult};
-ghost use Rattle.set_clients.specs.Given.{number_or};
+ghost use Rattle.std.specs.Option.{option_map_or};
 ghost use Rattle.sets.specs.declared.make.Unmade.TheVariants.{NoMemory};
 
 use index::spec::{FeatureGraphSpec, FeatureIx, IndexType};
@@ -10,12 +10,9 @@ use std::alloc::Global;
 
 // The number of an index, or another.
 fn number_or(ix: Option<FeatureIx>, other: u32) -> u32
-    ensures { result ≡ number_or ix other }
+    ensures { result ≡ option_map_or (λ ix. ix.0) ix other }
 {
-    match ix {
-        Some(ix) => ix.index(),
-        None => other,
-    }
+    ix.map_or(other, |ix| ix.index())
 }
 
 // How many of 65 nodes are in one of {64, 0, 2} and {2, 3} but not in both; which; and 99, for there is no fourth.

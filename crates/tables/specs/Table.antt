@@ -1,12 +1,15 @@
 -- A graph in a table of words: for each node two words, the heads of its chains of outgoing and of incoming edges, and
 -- then for each edge eight words: its source, its target, the next edge of the same source, the next of the same target,
 -- and the four words of its record. Heads and nexts are links: an edge's number and one, or 0 where the chain ends.
--- source_at, target_at, edge_at: an edge's parts.  laid: the edges of a table, the latest first.
--- Chains, Room: what a table keeps to.  Put: a record was written.  Laid: an edge was written.  Assumes nothing.
-use Rattle.std.specs.Prelude.{◌≡◌, ℕ, ◌+◌, ◌*◌, ◌<◌, ◌≤◌, List, [], ◌∷◌, length, ◌≢◌, slice_index, slice_index_or}
+-- The chain of a direction goes by an end: forward by the source, in reverse by the target.
+-- end_of, end_at, end_among: that end.  touching: it is a given node.  head_at, next_at: the links of the chain.  edge_at: an edge.  laid: all, the latest first.
+-- Kept: what a table keeps to.  Laid: an edge was written.  Assumes nothing.
+use Rattle.std.specs.Prelude.{◌≡◌, ℕ, suc, ◌+◌, ◌*◌, ◌<◌, ◌≤◌, Bool, List, [], ◌∷◌, length, Some, None, Option, ◌==◌, ◌≢◌, slice_index}
 use Rattle.theory.specs.Limits.{node_limit, edge_limit}
 use Rattle.theory.specs.Edges.{Edge}
 use Rattle.theory.specs.Chains.{newest, Last}
+use Rattle.index.specs.declared.direction.DependencyDirection.{DependencyDirection}
+use Rattle.index.specs.declared.direction.DependencyDirection.TheVariants.{Forward, Reverse}
 
 abbrev pub source_at : List ℕ → ℕ → ℕ → ℕ
 source_at ws nodes e = slice_index ws (2 * nodes + 8 * e)
@@ -28,42 +31,58 @@ edge_at held ws nodes e =
 abbrev pub laid : {W : Type 0} → (List ℕ → W) → List ℕ → ℕ → ℕ → List (Edge W)
 laid held ws nodes edges = newest (edge_at held ws nodes) edges
 
--- the ends are nodes, and heads and nexts tell the latest edges with their ends
-pub record Chains (ws : List ℕ) (nodes edges : ℕ) : Type 0 where
-  pub source : (e : ℕ) → e < edges → source_at ws nodes e < nodes
-  pub target : (e : ℕ) → e < edges → target_at ws nodes e < nodes
-  pub outs : (n : ℕ) → n < nodes → Last (source_at ws nodes) edges n (slice_index ws (2 * n))
-  pub ins : (n : ℕ) → n < nodes → Last (target_at ws nodes) edges n (slice_index ws (2 * n + 1))
-  pub next_out : (e : ℕ) → e < edges → Last (source_at ws nodes) e (source_at ws nodes e) (slice_index ws (2 * nodes + 8 * e + 2))
-  pub next_in : (e : ℕ) → e < edges → Last (target_at ws nodes) e (target_at ws nodes e) (slice_index ws (2 * nodes + 8 * e + 3))
-  deriving IsProp as Chains-prop
+-- the end that a direction's chain goes by
+abbrev pub end_of : {W : Type 0} → DependencyDirection → Edge W → ℕ
+end_of Forward e = e.source
+end_of Reverse e = e.target
 
--- nodes and edges are within the limits and the table
-abbrev pub Room : List ℕ → ℕ → ℕ → Type 0
-Room ws nodes edges = (nodes ≤ node_limit) × (edges ≤ edge_limit) × (2 * nodes + 8 * edges ≤ length ws)
+abbrev pub touching : {W : Type 0} → DependencyDirection → ℕ → Edge W → Bool
+touching d n e = end_of d e == n
 
--- four words were written from a place on, and none before it changed
-pub record Put (ws vs : List ℕ) (at : ℕ) (words : List ℕ) : Type 0 where
-  pub long : length vs ≡ length ws
-  pub word0 : slice_index_or vs at 0 ≡ slice_index words 0
-  pub word1 : slice_index_or vs (at + 1) 0 ≡ slice_index words 1
-  pub word2 : slice_index_or vs (at + 2) 0 ≡ slice_index words 2
-  pub word3 : slice_index_or vs (at + 3) 0 ≡ slice_index words 3
-  pub before : (j : ℕ) → j < at → slice_index vs j ≡ slice_index ws j
+abbrev pub end_at : DependencyDirection → List ℕ → ℕ → ℕ → ℕ
+end_at Forward ws nodes e = source_at ws nodes e
+end_at Reverse ws nodes e = target_at ws nodes e
+
+-- where the head of a node's chain stands
+abbrev pub head_place : DependencyDirection → ℕ → ℕ
+head_place Forward n = 2 * n
+head_place Reverse n = 2 * n + 1
+
+abbrev pub head_at : DependencyDirection → List ℕ → ℕ → ℕ
+head_at d ws n = slice_index ws (head_place d n)
+
+-- the link to the next edge of an edge's chain
+abbrev pub next_at : DependencyDirection → List ℕ → ℕ → ℕ → ℕ
+next_at Forward ws nodes e = slice_index ws (2 * nodes + 8 * e + 2)
+next_at Reverse ws nodes e = slice_index ws (2 * nodes + 8 * e + 3)
+
+-- the word of a link
+abbrev pub link_word : Option ℕ → ℕ
+link_word None = 0
+link_word (Some e) = suc e
+
+-- nodes and edges are within the limits and the table, the ends are nodes, and heads and nexts tell the latest edges
+-- with their ends
+pub record Kept (ws : List ℕ) (nodes edges : ℕ) : Type 0 where
+  pub few_nodes : nodes ≤ node_limit
+  pub few_edges : edges ≤ edge_limit
+  pub fits : 2 * nodes + 8 * edges ≤ length ws
+  pub ends : (d : DependencyDirection) (e : ℕ) → e < edges → end_at d ws nodes e < nodes
+  pub heads : (d : DependencyDirection) (n : ℕ) → n < nodes → Last (end_at d ws nodes) edges n (head_at d ws n)
+  pub nexts : (d : DependencyDirection) (e : ℕ) → e < edges → Last (end_at d ws nodes) e (end_at d ws nodes e) (next_at d ws nodes e)
+  deriving IsProp as Kept-prop
+
+-- the one of two ends that a direction's chain goes by
+abbrev pub end_among : DependencyDirection → ℕ → ℕ → ℕ
+end_among Forward s t = s
+end_among Reverse s t = t
 
 -- an edge was written into the table and put at the front of its two chains; all else is as it was
 pub record Laid (ws vs : List ℕ) (nodes e s t : ℕ) (words : List ℕ) : Type 0 where
   pub long : length vs ≡ length ws
-  pub source : slice_index_or vs (2 * nodes + 8 * e) 0 ≡ s
-  pub target : slice_index_or vs (2 * nodes + 8 * e + 1) 0 ≡ t
-  pub next_out : slice_index_or vs (2 * nodes + 8 * e + 2) 0 ≡ slice_index ws (2 * s)
-  pub next_in : slice_index_or vs (2 * nodes + 8 * e + 3) 0 ≡ slice_index ws (2 * t + 1)
-  pub word0 : slice_index_or vs (2 * nodes + 8 * e + 4) 0 ≡ slice_index words 0
-  pub word1 : slice_index_or vs (2 * nodes + 8 * e + 5) 0 ≡ slice_index words 1
-  pub word2 : slice_index_or vs (2 * nodes + 8 * e + 6) 0 ≡ slice_index words 2
-  pub word3 : slice_index_or vs (2 * nodes + 8 * e + 7) 0 ≡ slice_index words 3
-  pub head_out : slice_index_or vs (2 * s) 0 ≡ e + 1
-  pub head_in : slice_index_or vs (2 * t + 1) 0 ≡ e + 1
-  pub outs : (n : ℕ) → n < nodes → (n ≢ s) → slice_index vs (2 * n) ≡ slice_index ws (2 * n)
-  pub ins : (n : ℕ) → n < nodes → (n ≢ t) → slice_index vs (2 * n + 1) ≡ slice_index ws (2 * n + 1)
+  pub ends : (d : DependencyDirection) → end_at d vs nodes e ≡ end_among d s t
+  pub nexts : (d : DependencyDirection) → next_at d vs nodes e ≡ head_at d ws (end_among d s t)
+  pub held : record_at vs nodes e ≡ words
+  pub front : (d : DependencyDirection) → head_at d vs (end_among d s t) ≡ e + 1
+  pub heads : (d : DependencyDirection) (n : ℕ) → n < nodes → n ≢ end_among d s t → head_at d vs n ≡ head_at d ws n
   pub old : (j : ℕ) → 2 * nodes ≤ j → j < 2 * nodes + 8 * e → slice_index vs j ≡ slice_index ws j

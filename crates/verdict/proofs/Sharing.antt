@@ -1,18 +1,17 @@
 -- Two masks share a bit exactly if their bitwise and is not 0. Assumes nothing.
-use Rattle.std.proofs.Common.{◌≡◌, ℕ, zero, suc, ◌+◌, ◌*◌, ◌/◌, ◌%◌, ◌^◌, ◌<◌, min, not, ◌&&◌, ◌||◌, eqb, sym, ap, ◌∙◌, arith, pow_pos}
+use Rattle.std.proofs.Common.{◌≡◌, ℕ, zero, suc, ◌+◌, ◌*◌, ◌/◌, ◌%◌, ◌^◌, ◌<◌, min, not, ◌&&◌, ◌||◌, eqb, ap, ◌∙◌, arith, pow_pos}
 use mathlib.Core.Bool.{or-false, or-true}
 use lib.Bits.{bit_and, and_step, and_shr, and_lt}
 use Rattle.std.proofs.lemmas.Nat.{mod-pow-add}
-use Rattle.std.proofs.lemmas.Bool.{ne_eqb}
 use Rattle.bits.specs.Bits.{bit}
 use Rattle.verdict.specs.Verdicts.{share_below, shares}
 
 -- one bit more of each: x and y are the bits, p is the bit's weight, q what the bits below it come to
 joined : (x y p q : ℕ) → x < 2 → y < 2 → 0 < p → not (eqb (min x y * p + q) 0) ≡ (not (eqb q 0) || (eqb x 1 && eqb y 1))
-joined zero zero p q a b c = let e : 0 * p + q ≡ q = omega arith in ap (λ v. not (eqb v 0)) e ∙ sym (or-false _)
-joined zero (suc zero) p q a b c = let e : 0 * p + q ≡ q = omega arith in ap (λ v. not (eqb v 0)) e ∙ sym (or-false _)
-joined (suc zero) zero p q a b c = let e : 0 * p + q ≡ q = omega arith in ap (λ v. not (eqb v 0)) e ∙ sym (or-false _)
-joined (suc zero) (suc zero) p q a b c = ap not (ne_eqb (1 * p + q) 0 (omega arith)) ∙ sym (or-true _)
+joined zero zero p q a b c = grind (arith, or-false)
+joined zero (suc zero) p q a b c = grind (arith, or-false)
+joined (suc zero) zero p q a b c = grind (arith, or-false)
+joined (suc zero) (suc zero) p q a b c = grind (arith, or-true)
 joined (suc (suc x)) y p q a b c = absurd (omega arith)
 joined zero (suc (suc y)) p q a b c = absurd (omega arith)
 joined (suc zero) (suc (suc y)) p q a b c = absurd (omega arith)

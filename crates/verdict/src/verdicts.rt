@@ -6,7 +6,7 @@ use crate::verdict::Verdict;
 use index::links::Link;
 
 // Accepts a link that has a bit in common with the wanted mask.
-#[derive(Clone, Copy)]
+#[derive(Clone, Copy, PartialEq, Eq, Debug)]
 pub struct MaskVerdict {
     pub wanted: u8,
 }
@@ -14,6 +14,7 @@ pub struct MaskVerdict {
 impl Verdict for MaskVerdict {
     ghost accepts = { λ v link. shares v.wanted link.mask };
 
+    #[tactic(auto, using(crate::proofs::Sharing::and_shares))]
     fn accept(&mut self, link: Link) -> bool {
         self.wanted & link.mask != 0
     }
@@ -21,7 +22,7 @@ impl Verdict for MaskVerdict {
 
 // Accepts a link whose byte is not 0: the byte at 3 × the edge's number + the number of the half. A link whose place lies
 // past the table is rejected.
-#[derive(Clone, Copy)]
+#[derive(Clone, Copy, PartialEq, Eq, Debug)]
 pub struct TableVerdict<'a> {
     pub bytes: &'a [u8],
 }
@@ -30,7 +31,7 @@ impl<'a> Verdict for TableVerdict<'a> {
     ghost accepts = { λ v link. marked v.bytes.now link.edge link.half };
 
     fn accept(&mut self, link: Link) -> bool {
-        let place = 3 * link.edge as usize + link.half.number() as usize;
-        place < self.bytes.len() && self.bytes[place] != 0
+        let place = 3 * link.edge as usize + u32::from(link.half) as usize;
+        self.bytes.get(place).is_some_and(|&byte| byte != 0)
     }
 }

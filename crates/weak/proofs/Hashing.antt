@@ -1,115 +1,145 @@
 -- A search along a bucket's chain finds the pair of a package edge or shows that there is none, and the tables keep
 -- their chains as a pair is added. Assumes nothing.
-use Rattle.std.proofs.Common.{◌≡◌, ℕ, ◌+◌, ◌-◌, ◌%◌, ◌<◌, ◌≤◌, ◌≢◌, List, [], ◌∷◌, ◌++◌, length, get_or, set, replicate, Some, None, sym, ap, ◌∙◌, subst, inl, inr, arith, get_or-set_other, get_or-set_same, below_more}
-use mathlib.Core.Logic.{∥∥₁_elim}
-use std.HLevel.{Π_prop}
-use lib.ListN.{get_or-replicate}
+use Rattle.std.proofs.Common.{◌≡◌, ℕ, ◌+◌, ◌%◌, ◌<◌, ◌≤◌, List, [], ◌∷◌, ◌++◌, length, get_or, set, replicate, Some, None, Option, refl, sym, ap, ◌∙◌, subst, inl, inr, arith, get_or-set_other, get_or-set_same, length-set, below_more}
+use Rattle.std.proofs.lemmas.List.{length-replicate, get_or_append_left, get_or_push, length_push, get_or-replicate}
 use Rattle.std.proofs.lemmas.Bool.{cases_lt, cases_eq}
-use Rattle.theory.specs.Chains.{Last}
+use Rattle.theory.specs.Limits.{weak_limit}
 use Rattle.theory.specs.Pairs.{listed, place}
-use Rattle.theory.proofs.Chaining.{last_prop, last_none, head_other, head_new, link_old, link_new}
-use Rattle.theory.proofs.Placing.{place_none, place_some, listed_more}
-use Rattle.weak.specs.Hashed.{bucket_at, Hashed, Hashed-prop}
-use Rattle.weak.specs.Registered.{pair_at}
+use Rattle.theory.proofs.Placing.{length-listed, place_none, place_some, listed_more}
+use Rattle.weak.specs.declared.table.Entry.{Entry}
+use Rattle.weak.specs.Hashed.{entry_at, pair_at, pairs_in, bucket_at, LastPlace, Hashed}
 
-none_prop : IsProp ⊥
-none_prop p q = absurd p
+pub length-pairs : (entries : List Entry) (releases : List ℕ) → length (pairs_in entries releases) ≡ length entries
+length-pairs entries releases = length-listed (pair_at entries releases) (length entries)
 
-pub whole : {count : ℕ} {edges heads nexts : List ℕ} → ∥ Hashed count edges heads nexts ∥₁ → Hashed count edges heads nexts
-whole {count} {edges} {heads} {nexts} h = ∥∥₁_elim h prop (λ x. x)
-  where
-    prop : IsProp (Hashed count edges heads nexts)
-    prop =
-        Hashed-prop (Π_prop (λ _. Π_prop (λ _. last_prop))) (Π_prop (λ _. Π_prop (λ _. last_prop)))
-        (Π_prop (λ _. Π_prop (λ _. Π_prop (λ _. Π_prop (λ _. Π_prop (λ _. none_prop))))))
+-- keys that agree below k have the same last places there
+module _ (f g : ℕ → ℕ) (k : ℕ) (agree : (j : ℕ) → j < k → g j ≡ f j) (n : ℕ) where
+  last_same : (o : Option ℕ) → LastPlace f k n o → LastPlace g k n o
+  last_same None l = λ j less q. l j less (sym (agree j less) ∙ q)
+  last_same (Some i) l = (l.0, agree i l.0 ∙ l.1, λ j more less q. l.2 j more less (sym (agree j less) ∙ q))
 
--- tables of zeros hold no pair
-pub empty_hashed : (edges nexts : List ℕ) → Hashed 0 edges (replicate 1024 0) nexts
-empty_hashed edges nexts = record {
-  head = λ b lt. subst (λ h. Last (bucket_at edges) 0 b h) (sym (get_or-replicate 1024 b 0 0 lt)) (last_none (bucket_at edges) b);
-  next = λ i lt. absurd (omega arith);
+  -- an item with another key leaves the last place
+  last_other : (g k ≡ n → ⊥) → (o : Option ℕ) → LastPlace f k n o → LastPlace g (k + 1) n o
+  last_other ne None l = below_more (λ j. g j ≡ n → ⊥) k (last_same None l) ne
+  last_other ne (Some i) l =
+      let m = last_same (Some i) l in
+      let less : i < k = l.0 in (
+        omega arith,
+        m.1,
+        λ j after. λ below. below_more (λ j. i < j → g j ≡ n → ⊥) k (λ j b a. m.2 j a b) (λ _. ne) j below after,
+      )
+
+-- no pair yet, and no heads
+pub empty_hashed : Hashed [] [] (replicate 1024 None)
+empty_hashed = record {
+  long = length-replicate {A = Option ℕ} 1024 None;
+  beside = refl;
+  few = omega arith;
+  head = λ b low. subst (LastPlace (bucket_at []) 0 b) (sym (get_or-replicate 1024 b None None low)) (λ j less _. omega arith);
+  next = λ i less. absurd (omega arith);
   distinct = λ i j a b. absurd (omega arith);
 }
 
--- the pairs from a link on were passed, and none of them is p's
-abbrev pub Passed : ℕ → List ℕ → ℕ → ℕ → Type 0
-Passed count edges p link =
-    (link ≤ count) × ((j : ℕ) → link ≤ j → j < count → get_or edges j 0 ≡ p → ⊥) × (0 < link → bucket_at edges (link - 1) ≡ p % 1024)
+-- no pair of the package edge p stands past the place, and the pair there is in p's bucket
+abbrev pub Passed : List Entry → ℕ → Option ℕ → Type 0
+Passed entries p None = (j : ℕ) → j < length entries → (entry_at entries j).package_edge ≡ p → ⊥
+Passed entries p (Some i) = (i < length entries) × (bucket_at entries i ≡ p % 1024) × ((j : ℕ) → i < j → j < length entries → (entry_at entries j).package_edge ≡ p → ⊥)
 
-module _ (count : ℕ) (edges heads nexts : List ℕ) (h : Hashed count edges heads nexts) (p : ℕ) where
-  pub search_begins : Passed count edges p (get_or heads (p % 1024) 0)
-  search_begins =
-      let b : p % 1024 < 1024 = omega arith in
-      let l = h.head (p % 1024) b in
-      (l.0, λ j low high q. l.1 j low high (ap (λ x. x % 1024) q), l.2)
+module _ (entries : List Entry) (releases : List ℕ) (heads : List (Option ℕ)) (h : Hashed entries releases heads) (p : ℕ) where
+  begins : (o : Option ℕ) → LastPlace (bucket_at entries) (length entries) (p % 1024) o → Passed entries p o
+  begins None l = λ j less q. l j less (ap (λ x. x % 1024) q)
+  begins (Some i) l = (l.0, l.1, λ j more less q. l.2 j more less (ap (λ x. x % 1024) q))
 
-  pub search_goes : (link : ℕ) → 0 < link → Passed count edges p link → (get_or edges (link - 1) 0 ≡ p → ⊥) → Passed count edges p (get_or nexts (link - 1) 0)
-  search_goes link pos s ne =
-      let top : link ≤ count = s.0 in
-      let less : link - 1 < count = omega arith in
-      let l = h.next (link - 1) less in
-      let low : get_or nexts (link - 1) 0 ≤ link - 1 = l.0 in
-      let here = s.2 pos in (
-        omega arith,
-        λ j from to q. elim (cases_lt j (link - 1)) [
-          | inl before ↦ l.1 j from before (ap (λ x. x % 1024) q ∙ sym here)
-          | inr after ↦ elim (cases_eq j (link - 1)) [
-            | inl same ↦ ne (ap (λ i. get_or edges i 0) (sym same) ∙ q)
-            | inr other ↦ s.1 j (omega arith) to q
-          ]
-        ],
-        λ z. l.2 z ∙ here,
-      )
+  pub search_begins : Passed entries p (get_or heads (p % 1024) None)
+  search_begins = let low : p % 1024 < 1024 = omega arith in begins _ (h.head (p % 1024) low)
 
-  pub search_finds : (releases : List ℕ) (link : ℕ) → 0 < link → Passed count edges p link → get_or edges (link - 1) 0 ≡ p → place p (listed (pair_at edges releases) count) ≡ Some (link - 1)
-  search_finds releases link pos s q =
-      let top : link ≤ count = s.0 in
-      place_some (pair_at edges releases) count p (link - 1) (omega arith) q (λ j less e. h.distinct j (link - 1) less (omega arith) (e ∙ sym q))
+  -- the pair at the place isn't p's either, and an earlier one of p's stands before the place that is next
+  goes : (i : ℕ) → Passed entries p (Some i) → ((entry_at entries i).package_edge ≡ p → ⊥) → (o : Option ℕ) → LastPlace (bucket_at entries) i (bucket_at entries i) o → Passed entries p o
+  goes i s ne o l = split o l
+    where
+      from_here : (j : ℕ) → i ≤ j → j < length entries → (entry_at entries j).package_edge ≡ p → ⊥
+      from_here j low less q = elim (cases_eq j i) [
+        | inl same ↦ ne (ap (λ k. (entry_at entries k).package_edge) (sym same) ∙ q)
+        | inr other ↦ s.2 j (omega arith) less q
+      ]
 
-  pub search_ends : (releases : List ℕ) → Passed count edges p 0 → place p (listed (pair_at edges releases) count) ≡ None
-  search_ends releases s = place_none (pair_at edges releases) count p (λ j less q. s.1 j (omega arith) less q)
+      split : (o : Option ℕ) → LastPlace (bucket_at entries) i (bucket_at entries i) o → Passed entries p o
+      split None l = λ j less q. elim (cases_lt j i) [ inl before ↦ l j before (ap (λ x. x % 1024) q ∙ sym s.1) | inr after ↦ from_here j after less q ]
+      split (Some k) l =
+          let low : k < i = l.0 in
+          let top : i < length entries = s.0 in (
+            omega arith,
+            l.1 ∙ s.1,
+            λ j more less q. elim (cases_lt j i) [ inl before ↦ l.2 j more before (ap (λ x. x % 1024) q ∙ sym s.1) | inr after ↦ from_here j after less q ],
+          )
 
--- a pair is written at the end of the tables, and put at the front of its bucket's chain
-module _ (i : ℕ) (edges heads nexts : List ℕ) (h : Hashed i edges heads nexts) (p : ℕ)
-    (e : i < length edges) (n : i < length nexts) (b : p % 1024 < length heads)
-    (fresh : (j : ℕ) → j < i → get_or edges j 0 ≡ p → ⊥) where
-  old_edge : (j : ℕ) → j < i → get_or (set edges i p) j 0 ≡ get_or edges j 0
-  old_edge j less = let ne : j ≢ i = omega arith in get_or-set_other edges i j p 0 ne
+  pub search_goes : (i : ℕ) → Passed entries p (Some i) → ((entry_at entries i).package_edge ≡ p → ⊥) → Passed entries p (entry_at entries i).next
+  search_goes i s ne = goes i s ne _ (h.next i s.0)
 
-  new_edge : get_or (set edges i p) i 0 ≡ p
-  new_edge = get_or-set_same edges i p 0 e
+  pub search_finds : (i : ℕ) → Passed entries p (Some i) → (entry_at entries i).package_edge ≡ p → place p (pairs_in entries releases) ≡ Some i
+  search_finds i s q =
+      place_some (pair_at entries releases) (length entries) p i s.0 q (λ j less e. h.distinct j i less s.0 (e ∙ sym q))
 
-  same_bucket : (j : ℕ) → j < i → bucket_at (set edges i p) j ≡ bucket_at edges j
-  same_bucket j less = ap (λ x. x % 1024) (old_edge j less)
+  pub search_ends : Passed entries p None → place p (pairs_in entries releases) ≡ None
+  search_ends s = place_none (pair_at entries releases) (length entries) p s
 
-  new_bucket : bucket_at (set edges i p) i ≡ p % 1024
-  new_bucket = ap (λ x. x % 1024) new_edge
+-- a pair comes last, and is put at the front of its bucket's chain
+abbrev pub with_entry : List Entry → List (Option ℕ) → ℕ → List Entry
+with_entry entries heads p = entries ++ record { package_edge = p; next = get_or heads (p % 1024) None } ∷ []
 
-  pub hashed_more : Hashed (i + 1) (set edges i p) (set heads (p % 1024) (i + 1)) (set nexts i (get_or heads (p % 1024) 0))
-  hashed_more = record {
-    head = λ k lt. elim (cases_eq k (p % 1024)) [
-      | inl q ↦
-          subst (λ z. Last (bucket_at (set edges i p)) (i + 1) k z) (sym (ap (λ x. get_or (set heads (p % 1024) (i + 1)) x 0) q ∙ get_or-set_same heads (p % 1024) (i + 1) 0 b))
-          (head_new (bucket_at edges) (bucket_at (set edges i p)) i same_bucket k (new_bucket ∙ sym q))
-      | inr ne ↦
-          subst (λ z. Last (bucket_at (set edges i p)) (i + 1) k z) (sym (get_or-set_other heads (p % 1024) k (i + 1) 0 ne))
-          (head_other (bucket_at edges) (bucket_at (set edges i p)) i same_bucket k _ (λ q. ne (sym q ∙ new_bucket)) (h.head k lt))
-    ];
-    next = below_more (λ k. Last (bucket_at (set edges i p)) k (bucket_at (set edges i p) k) (get_or (set nexts i (get_or heads (p % 1024) 0)) k 0)) i
-        (λ k less. let ne : k ≢ i = omega arith in link_old (bucket_at edges) (bucket_at (set edges i p)) i same_bucket k less _ _ (get_or-set_other nexts i k (get_or heads (p % 1024) 0) 0 ne) (h.next k less))
-        (let low : p % 1024 < 1024 = omega arith in
-        link_new (bucket_at edges) (bucket_at (set edges i p)) i same_bucket (p % 1024) _ _ new_bucket (get_or-set_same nexts i (get_or heads (p % 1024) 0) 0 n) (h.head (p % 1024) low));
-    distinct = λ x y less lt q. elim (cases_lt y i) [
-      | inl old ↦ h.distinct x y less old (sym (old_edge x (omega arith)) ∙ q ∙ old_edge y old)
-      | inr last ↦
-          let same : y ≡ i = omega arith in
-          fresh x (omega arith) (sym (old_edge x (omega arith)) ∙ q ∙ ap (λ k. get_or (set edges i p) k 0) same ∙ new_edge)
-    ];
-  }
+module _ (entries : List Entry) (releases : List ℕ) (heads : List (Option ℕ)) (h : Hashed entries releases heads) (p r : ℕ) where
+  abbrev pub more : List Entry
+  more = with_entry entries heads p
+
+  old_entry : (j : ℕ) → j < length entries → entry_at more j ≡ entry_at entries j
+  old_entry j less = get_or_append_left entries _ _ j less
+
+  new_entry : entry_at more (length entries) ≡ record { package_edge = p; next = get_or heads (p % 1024) None }
+  new_entry = get_or_push entries _ _ (length entries) refl
+
+  same_bucket : (j : ℕ) → j < length entries → bucket_at more j ≡ bucket_at entries j
+  same_bucket j less = ap (λ (e : Entry). e.package_edge % 1024) (old_entry j less)
+
+  new_bucket : bucket_at more (length entries) ≡ p % 1024
+  new_bucket = ap (λ (e : Entry). e.package_edge % 1024) new_entry
+
+  -- the chains with the new pair at the front of its own
+  pub hashed_more : length entries < weak_limit → ((j : ℕ) → j < length entries → (entry_at entries j).package_edge ≡ p → ⊥) → Hashed more (releases ++ r ∷ []) (set heads (p % 1024) (Some (length entries)))
+  hashed_more room fresh =
+      let n = length entries in
+      let k : length more ≡ n + 1 = length_push entries _ in
+      let bucket = new_bucket in
+      let low : p % 1024 < length heads = let l = h.long in omega arith in
+      record {
+        long = length-set heads (p % 1024) _ ∙ h.long;
+        beside = length_push releases r ∙ ap (λ x. x + 1) h.beside ∙ sym k;
+        few = omega arith;
+        head = λ b lt. subst (λ m. LastPlace (bucket_at more) m b (get_or (set heads (p % 1024) (Some n)) b None)) (sym k) (elim (cases_eq b (p % 1024)) [
+          | inl q ↦
+              subst (LastPlace (bucket_at more) (n + 1) b) (sym (ap (λ x. get_or (set heads (p % 1024) (Some n)) x None) q ∙ get_or-set_same heads (p % 1024) (Some n) None low))
+              (omega arith, new_bucket ∙ sym q, λ j after below. absurd (omega arith))
+          | inr ne ↦
+              subst (LastPlace (bucket_at more) (n + 1) b) (sym (get_or-set_other heads (p % 1024) b (Some n) None ne))
+              (last_other (bucket_at entries) (bucket_at more) n same_bucket b (λ q. ne (sym q ∙ new_bucket)) _ (h.head b lt))
+        ]);
+        next = λ i less. below_more (λ k. LastPlace (bucket_at more) k (bucket_at more k) (entry_at more k).next) n
+            (λ j b. rw (old_entry j b) (last_same (bucket_at entries) (bucket_at more) j (λ x a. same_bucket x (omega arith)) _ _ (h.next j b)))
+            (rw new_entry (last_same (bucket_at entries) (bucket_at more) n same_bucket _ _ (let b : p % 1024 < 1024 = omega arith in h.head (p % 1024) b)))
+            i (omega arith);
+        distinct = λ x y less lt q. elim (cases_lt y n) [
+          | inl old ↦
+              h.distinct x y less old (ap (λ (e : Entry). e.package_edge) (sym (old_entry x (omega arith))) ∙ q ∙ ap (λ (e : Entry). e.package_edge) (old_entry y old))
+          | inr last ↦
+              let same : y ≡ n = omega arith in
+              let b : x < n = omega arith in
+              fresh x b (ap (λ (e : Entry). e.package_edge) (sym (old_entry x b)) ∙ q ∙ ap (λ k. (entry_at more k).package_edge) same ∙ ap (λ (e : Entry). e.package_edge) new_entry)
+        ];
+      }
 
   -- the pairs are those before, and the new one last
-  pub pairs_more : (releases : List ℕ) (r : ℕ) → i < length releases → listed (pair_at (set edges i p) (set releases i r)) (i + 1) ≡ listed (pair_at edges releases) i ++ record { package_edge = p; release = r } ∷ []
-  pairs_more releases r n =
-      listed_more (pair_at edges releases) (pair_at (set edges i p) (set releases i r)) i (record { package_edge = p; release = r })
-      (λ j less. let ne : j ≢ i = omega arith in let a = old_edge j less in let b = get_or-set_other releases i j r 0 ne in cc)
-      (let a = new_edge in let b = get_or-set_same releases i r 0 n in cc)
+  pub pairs_more : pairs_in more (releases ++ r ∷ []) ≡ pairs_in entries releases ++ record { package_edge = p; release = r } ∷ []
+  pairs_more =
+      ap (listed (pair_at more (releases ++ r ∷ []))) (length_push entries _)
+      ∙ listed_more (pair_at entries releases) (pair_at more (releases ++ r ∷ [])) (length entries) (record { package_edge = p; release = r })
+      (λ j less. let a = old_entry j less in let b = get_or_append_left releases (r ∷ []) 0 j (let n = h.beside in omega arith) in cc)
+      (let a = new_entry in let b = get_or_push releases r 0 (length entries) h.beside in cc)

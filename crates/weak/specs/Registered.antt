@@ -1,18 +1,16 @@
 -- pairs: the list of pairs that a table means; a pair's place is its weak index.
 -- register: what becomes of the list, and what is answered, as a pair comes.  Assumes nothing.
-use Rattle.std.specs.Prelude.{ℕ, cond, List, [], ◌∷◌, ◌++◌, length, Some, None, Ok, Err, Option, Result, nat_le, slice_index}
+use Rattle.std.specs.Prelude.{ℕ, cond, List, [], ◌∷◌, ◌++◌, length, Some, None, Ok, Err, Option, Result, nat_le}
 use Rattle.theory.specs.Limits.{weak_limit}
-use Rattle.theory.specs.Pairs.{Pair, listed, place}
+use Rattle.theory.specs.Pairs.{Pair, place}
 use Rattle.index.specs.declared.records.WeakIndex.{WeakIndex}
 use Rattle.index.specs.declared.refusal.Refusal.{Refusal}
 use Rattle.index.specs.declared.refusal.Refusal.TheVariants.{WeakIndexesFull}
 use Rattle.weak.specs.declared.table.WeakDependencies.{WeakDependencies}
 
-abbrev pub pair_at : List ℕ → List ℕ → ℕ → Pair
-pair_at edges releases i = record { package_edge = slice_index edges i; release = slice_index releases i }
-
+-- a contract sees a table as the list of its pairs
 abbrev pub pairs : WeakDependencies → List Pair
-pairs w = listed (pair_at w.package_edges w.release_nodes) w.count
+pairs w = w
 
 abbrev pub weak_index : ℕ → WeakIndex
 weak_index i = record { 0 = i }

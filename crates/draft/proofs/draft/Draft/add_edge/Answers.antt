@@ -1,56 +1,34 @@
 -- The table keeps its chains, and its edges are those before with the new one first.
-use Rattle.std.proofs.Common.{◌≡◌, false, ◌∷◌, length, sym, refl, ap, ◌∙◌, subst, arith}
-use Rattle.tables.specs.Table.{laid, Chains}
-use Rattle.tables.proofs.Laying.{whole, laid_chains, laid_edges}
+use Rattle.std.proofs.Common.{◌≡◌, Ok, ◌+◌, ◌-◌, ◌*◌, ◌/◌, ◌<◌, false, length, refl, sym, ap, ◌∙◌, subst, arith}
+use Rattle.draft.specs.State.{State}
+use Rattle.draft.specs.Drafting.{TakesEdge, unregistered}
 use Rattle.draft.proofs.Deciding.{edge_fits, taken}
-use Rattle.draft.specs.Drafting.{state_of, unregistered}
-use Rattle.weak.specs.Registered.{pairs}
-use Rattle.std.proofs.lemmas.Bool.{lt-leb}
-use Rattle.draft.proofs.draft.Draft.add_edge.Goals.{in-Some+else-index-len, in_default}
+use Rattle.tables.proofs.Laying.{kept_laid, laid_edges}
 use Rattle.draft.proofs.draft.Draft.add_edge.Goals as goal
 
 pub invariant_of-self : goal.invariant_of-self
 invariant_of-self g c =
-    let d = c.args.self.now in
-    let vs = c.lay.new.self.words.now in
-    let l = c.lay.ensures.laid in
-    let ch = laid_chains d.raw.words.now vs d.raw.nodes d.raw.edges _ _ _ l (omega arith) (omega arith) (whole d.chains) in
-    let p = c.lay.ensures.nodes in
-    let q = c.lay.ensures.edges in
-    let long = l.long in
-    record {
-      room = (omega arith, omega arith, omega arith);
-      chains = ∣ subst (λ n. Chains vs n c.lay.new.self.edges) (sym p) (subst (λ k. Chains vs d.raw.nodes k) (sym q) ch) ∣₁;
-    }
+    let d = c.self.inside in
+    let nodes = ap (λ (x : State). x.nodes) c.self.view_is in
+    let few : d.edges < 16384 = c.if-e-ge-EDGE_LIMIT.false in
+    let room : d.edges < (length d.words.now - 2 * d.nodes) / 8 = c.if-e-room.false in
+    kept_laid d.words.now c.lay.new.words d.nodes d.edges _ _ _ c.lay.ensures (omega arith) (omega arith) c.self.invariant few (omega arith)
 
 pub returns : goal.returns
 returns g c =
-    let d = c.args.self.now in
-    let l = c.lay.ensures.laid in
-    let p = c.lay.ensures.nodes in
-    let q = c.lay.ensures.edges in
-    let ws = d.raw.words.now in
-    let vs = c.lay.new.self.words.now in
+    let d = c.self.inside in
     let held = g.S.Edge.EdgeRecord.held in
-    let registered : unregistered (length (pairs d.weak)) (g.S.Edge.EdgeRecord.weak c.args.weight) ≡ false =
-    elim c.match-weak_index.branch [
-      | in-Some+else-index-len w ↦
-          ap (unregistered (length (pairs d.weak))) (sym w.in-Some.ensures) ∙ lt-leb (length (pairs d.weak)) w.in-Some.index.0 (let n = w.len.ensures in let b = w.if-index-len.false in omega arith)
-      | in_default w ↦ ap (unregistered (length (pairs d.weak))) (sym w.in_default.ensures)
-    ] in
-    let four : length c.encode.result ≡ 4 = omega arith in
-    taken held (g.S.Edge.EdgeRecord.weak c.args.weight) (state_of d.raw d.weak) _ _ c.args.weight _ (state_of c.lay.new.self d.weak)
-    (edge_fits (state_of d.raw d.weak) _ _ (g.S.Edge.EdgeRecord.weak c.args.weight) (omega arith) (omega arith) registered (omega arith) (omega arith)) (
-      refl,
-      record {
-        laid =
-            ap (λ n. laid held vs n c.lay.new.self.edges) p ∙ ap (laid held vs d.raw.nodes) q
-            ∙ laid_edges ws vs d.raw.nodes d.raw.edges _ _ _ l (omega arith) (omega arith) held c.args.weight four c.encode.ensures
-            ∙ ap (λ s. record { source = s; target = c.index-4.result; number = d.raw.edges; weight = c.args.weight } ∷ laid held ws d.raw.nodes d.raw.edges) c.index-3.ensures
-            ∙ ap (λ t. record { source = g.S.Ix.IndexType.number c.args.source; target = t; number = d.raw.edges; weight = c.args.weight } ∷ laid held ws d.raw.nodes d.raw.edges) c.index-4.ensures;
-        edges = q;
-        nodes = p;
-        pairs = refl;
-        long = l.long;
-      },
-    )
+    let weak = g.S.Edge.EdgeRecord.weak c.args.weight in
+    let before : State = record { words = d.words.now; nodes = d.nodes; edges = d.edges; pairs = d.weak } in
+    let after : State = record { words = c.lay.new.words; nodes = d.nodes; edges = d.edges + 1; pairs = d.weak } in
+    let nodes = ap (λ (x : State). x.nodes) c.self.view_is in
+    let s = c.in_ok-from.ensures in
+    let t = c.in_ok-to.ensures in
+    let few : d.edges < 16384 = c.if-e-ge-EDGE_LIMIT.false in
+    let room : d.edges < (length d.words.now - 2 * d.nodes) / 8 = c.if-e-room.false in
+    let known : unregistered (length d.weak) weak ≡ false =
+    ap (λ (x : State). unregistered (length x.pairs) weak) c.self.view_is ∙ ap (unregistered (length c.args.self.now.pairs)) (sym c.weak_index.ensures) ∙ sym c.lacks.ensures ∙ c.if-lacks.false in
+    let laid = laid_edges d.words.now c.lay.new.words d.nodes d.edges _ _ _ c.lay.ensures (omega arith) (omega arith) held c.args.weight c.encode.ensures in
+    subst (λ x. TakesEdge held weak x (g.S.Ix.IndexType.number c.args.source) (g.S.Ix.IndexType.number c.args.target) c.args.weight (Ok d.edges) after) c.self.view_is
+    (taken held weak before (g.S.Ix.IndexType.number c.args.source) (g.S.Ix.IndexType.number c.args.target) c.args.weight (Ok d.edges) after (edge_fits before (g.S.Ix.IndexType.number c.args.source) (g.S.Ix.IndexType.number c.args.target) weak (omega arith) (omega arith) known few room)
+    (refl, record { laid = cc; edges = refl; nodes = refl; pairs = refl; long = c.lay.ensures.long }))

@@ -1,35 +1,24 @@
 -- The chain of a bucket has the pair that is looked for, or no pair has it.
-use Rattle.std.proofs.Common.{◌≡◌, ◌-◌, ◌<◌, ◌≤◌, sym, ap, subst, arith}
+use Rattle.std.proofs.Common.{sym, ap, ◌∙◌, subst}
 use Rattle.std.specs.Option.{option_map}
+use Rattle.theory.specs.Pairs.{place}
+use Rattle.weak.specs.Hashed.{entry_at}
 use Rattle.weak.specs.Registered.{weak_index}
-use Rattle.weak.proofs.Hashing.{whole, Passed, search_begins, search_goes, search_finds, search_ends}
+use Rattle.weak.proofs.Hashing.{Passed, search_finds, search_ends}
 use Rattle.weak.proofs.table.WeakDependencies.find.Goals as goal
 
-pub loop-link-init : goal.loop-link-init
-loop-link-init c =
-    let w = c.args.self.now in search_begins w.count w.package_edges w.heads w.nexts (whole w.hashed) c.args.package_edge
-
-pub returns-then-self-i : goal.returns-then-self-i
-returns-then-self-i c =
-    let w = c.args.self.now in
-    sym (ap (option_map weak_index) (search_finds w.count w.package_edges w.heads w.nexts (whole w.hashed) c.args.package_edge w.release_nodes c.loop-link.link (omega arith) c.loop-link.invariant c.if-self-i.true))
-
-pub loop-link-smaller : goal.loop-link-smaller
-loop-link-smaller c =
-    let w = c.args.self.now in
-    let link = c.loop-link.link in
-    let top : link ≤ w.count = c.loop-link.invariant.0 in
-    let less : link - 1 < w.count = omega arith in
-    let low = ((whole w.hashed).next (link - 1) less).0 in
-    omega arith
-
-pub loop-link-preserved : goal.loop-link-preserved
-loop-link-preserved c =
-    let w = c.args.self.now in
-    search_goes w.count w.package_edges w.heads w.nexts (whole w.hashed) c.args.package_edge c.loop-link.link (omega arith) c.loop-link.invariant c.if-self-i.false
+pub returns-then-entry-package_edge : goal.returns-then-entry-package_edge
+returns-then-entry-package_edge c =
+    let w = c.self.inside in
+    let p = c.args.package_edge in
+    let h = subst (Passed w.entries.items p) c.in-Some.is c.loop-link.invariant in
+    let at = search_finds w.entries.items w.release_nodes.items w.heads c.self.invariant p c.in-Some.i h (ap (λ es. (entry_at es c.in-Some.i).package_edge) (sym c.deref.ensures.0) ∙ c.if-entry-package_edge.true) in
+    sym (ap (option_map weak_index) (ap (place p) (sym c.self.view_is) ∙ at))
 
 pub returns : goal.returns
 returns c =
-    let w = c.args.self.now in
-    let end : c.loop-link.link ≡ 0 = omega arith in
-    sym (ap (option_map weak_index) (search_ends w.count w.package_edges w.heads w.nexts (whole w.hashed) c.args.package_edge w.release_nodes (subst (Passed w.count w.package_edges c.args.package_edge) end c.loop-link.invariant)))
+    let w = c.self.inside in
+    let p = c.args.package_edge in
+    let h = subst (Passed w.entries.items p) c.in_default.is c.loop-link.invariant in
+    let none = search_ends w.entries.items w.release_nodes.items w.heads c.self.invariant p h in
+    sym (ap (option_map weak_index) (ap (place p) (sym c.self.view_is) ∙ none))

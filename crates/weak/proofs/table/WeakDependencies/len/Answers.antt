@@ -1,8 +1,9 @@
--- The list of pairs is as long as the count says.
-use Rattle.std.proofs.Common.{sym}
-use Rattle.theory.proofs.Placing.{length-listed}
-use Rattle.weak.specs.Registered.{pair_at}
+-- The list has a pair an entry.
+use Rattle.std.proofs.Common.{length, sym, ap, ◌∙◌}
+use Rattle.weak.proofs.Hashing.{length-pairs}
 use Rattle.weak.proofs.table.WeakDependencies.len.Goals as goal
 
 pub returns : goal.returns
-returns c = let w = c.args.self.now in sym (length-listed (pair_at w.package_edges w.release_nodes) w.count)
+returns c =
+    let w = c.self.inside in
+    c.len.ensures.value ∙ sym (length-pairs w.entries.items w.release_nodes.items) ∙ ap length c.self.view_is

@@ -1,16 +1,10 @@
--- The front of the table of release nodes.
-use Rattle.std.proofs.Common.{◌≡◌, ◌-◌, take, ap, ◌∙◌, arith}
-use Rattle.std.proofs.lemmas.List.{length-take-le}
-use Rattle.weak.proofs.Releasing.{front_releases}
+-- The list of pairs has the release nodes of the table.
+use Rattle.std.proofs.Common.{map, ap, ◌∙◌}
+use Rattle.theory.specs.Pairs.{Pair}
+use Rattle.weak.proofs.Releasing.{releases_of}
 use Rattle.weak.proofs.table.WeakDependencies.releases.Goals as goal
 
-pub returns : goal.returns
-returns c =
-    let w = c.args.self.now in
-    let s1 = w.sizes.1 in
-    let e : w.count - 0 ≡ w.count = omega arith in
-    let n = length-take-le (w.count - 0) w.release_nodes (omega arith) in
-    record {
-      nodes = ap (λ n. take n w.release_nodes) e ∙ front_releases w.package_edges w.release_nodes w.count (omega arith);
-      few = omega arith;
-    }
+pub returns-clause-nodes : goal.returns-clause-nodes
+returns-clause-nodes c =
+    let w = c.self.inside in
+    c.as_slice.ensures.value ∙ releases_of w.entries.items w.release_nodes.items c.self.invariant.beside ∙ ap (map (λ (p : Pair). p.release)) c.self.view_is

@@ -1,0 +1,20 @@
+-- The indexes before those still to come are dealt with; nothing but states and hand-out table changed.
+use Rattle.std.proofs.Common.{◌≡◌}
+use Rattle.buffers.specs.Buffers.{held_in, left}
+use Rattle.buffers.proofs.Telling.{Telling}
+use Rattle.feature_filter.proofs.weak_buffers.WeakBuffers.tell.Given as goal
+
+abbrev pub invariant-loop-index : goal.invariant-loop-index
+invariant-loop-index g l =
+    let acc = g.V.Verdict.accepts l.initial.verdict in
+    let nodes = l.releases.nodes.now in
+    record {
+      can_next : (goal.iterator-loop-index g).can_next l.index-iterator;
+      ends : (goal.iterator-loop-index g).is_finite l.index-iterator;
+      same : g.V.Verdict.accepts l.verdict ≡ acc;
+      used : l.self.used ≡ l.initial.self.used;
+      hold : l.hold ≡ l.initial.hold;
+      releases : l.index-iterator.releases.now ≡ l.releases;
+      node : l.index-iterator.node ≡ l.node;
+      so_far : Telling acc nodes l.node l.initial.self.states (held_in acc l.initial.self.states l.initial.self.used l.initial.hold) l.self.states l.hand (left nodes l.node l.index-iterator.link) l.out;
+    }
