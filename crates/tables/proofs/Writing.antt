@@ -4,12 +4,8 @@ use Rattle.index.specs.declared.direction.DependencyDirection.TheVariants.{Forwa
 use Rattle.tables.specs.Table.{Laid}
 
 four_words : (xs : List ℕ) → length xs ≡ 4 → get_or xs 0 0 ∷ get_or xs 1 0 ∷ get_or xs 2 0 ∷ get_or xs 3 0 ∷ [] ≡ xs
-four_words [] f = absurd (omega arith)
-four_words (x ∷ []) f = absurd (omega arith)
-four_words (x ∷ y ∷ []) f = absurd (omega arith)
-four_words (x ∷ y ∷ z ∷ []) f = absurd (omega arith)
 four_words (x ∷ y ∷ z ∷ v ∷ []) f = refl
-four_words (x ∷ y ∷ z ∷ v ∷ o ∷ os) f = absurd (omega arith)
+four_words xs f = absurd (grind arith)
 
 -- the table after the writes of an edge: its eight words, and then its two heads
 abbrev pub with_edge : List ℕ → ℕ → ℕ → ℕ → ℕ → List ℕ → List ℕ
