@@ -1,6 +1,6 @@
 // A set asked about a node, and changed by one node or all.
-ghost use Rattle.std.specs.Prelude.{◌≡◌, false, not, ◌&&◌, ◌||◌, length, ◌==◌, nat_lt};
-ghost use Rattle.sets.specs.Sets.{member, members as members_of, node_count, IsSetOf};
+ghost use Rattle.std.specs.Prelude.{◌≡◌, ℕ, true, false, not, ◌&&◌, ◌||◌, length, ◌==◌, nat_lt};
+ghost use Rattle.sets.specs.Sets.{member, members as members_of, node_count, IsSetOf, BecomesSetOf};
 
 use crate::ix_set::IxSet;
 use index::spec::{GraphSpec, IndexType};
@@ -36,8 +36,11 @@ impl<S: GraphSpec> IxSet<S> {
 
     // Makes a node a member, and says whether it is one that was none before. An index beyond the graph changes nothing.
     pub fn insert(&mut self, ix: S::Ix) -> bool
-        ensures new { result ≡ (nat_lt (S.Ix.IndexType.number ix) (node_count self.old) && not (member self.old (S.Ix.IndexType.number ix))) }
-        ensures set { IsSetOf (λ n. member self.old n || (n == S.Ix.IndexType.number ix && nat_lt (S.Ix.IndexType.number ix) (node_count self.old))) (node_count self.old) self.new }
+        ensures new { let number = S.Ix.IndexType.number ix in
+            result ≡ (nat_lt number (node_count self.old) && not (member self.old number)) }
+        ensures set { let number = S.Ix.IndexType.number ix in
+            let members = λ (n : ℕ). member self.old n || (n == number && nat_lt number (node_count self.old)) in
+            IsSetOf members (node_count self.old) self.new }
     {
         let n = ix.index();
         if n >= self.nodes || self.contains(ix) {
@@ -50,14 +53,14 @@ impl<S: GraphSpec> IxSet<S> {
 
     // No member.
     pub fn clear(&mut self)
-        ensures { IsSetOf (λ _. false) (node_count self.old) self.new }
+        ensures { BecomesSetOf (λ _. false) self.old self.new }
     {
         self.change_words(|_, _| 0);
     }
 
     // Every node.
     pub fn fill(&mut self)
-        ensures { IsSetOf (λ n. nat_lt n (node_count self.old)) (node_count self.old) self.new }
+        ensures { BecomesSetOf (λ _. true) self.old self.new }
     {
         self.change_words(|_, _| u64::MAX);
     }

@@ -2,7 +2,7 @@
 // cursors and `insert` touch its words.
 ghost use Rattle.std.specs.Prelude.{◌≡◌, ℕ, ◌+◌, ◌/◌, ◌%◌, ◌<◌, Bool, not, ◌&&◌, if◌then◌else◌, ◌==◌, nat_eq, nat_lt, position};
 ghost use Rattle.bits.specs.Bits.{bit};
-ghost use Rattle.sets.specs.Sets.{member, node_count, IsSetOf, IsWordOf};
+ghost use Rattle.sets.specs.Sets.{member, node_count, IsSetOf, BecomesSetOf, IsWordOf};
 ghost use Rattle.sets.specs.Stepping.{TurnsWords};
 
 use crate::ix_set::IxSet;
@@ -39,7 +39,8 @@ impl<S> IxSet<S> {
     // Makes just those of the nodes 64 * i to 64 * i + 63 members whose bits are set in w. Bits beyond the last node are
     // not looked at.
     pub fn put_word(&mut self, i: usize, w: u64)
-        ensures { IsSetOf (λ n. if nat_eq (n / 64) i then bit w (n % 64) && nat_lt n (node_count self.old) else member self.old n) (node_count self.old) self.new }
+        ensures { let members = λ (n : ℕ). if nat_eq (n / 64) i then bit w (n % 64) && nat_lt n (node_count self.old) else member self.old n in
+            IsSetOf members (node_count self.old) self.new }
     {
         if i >= self.words.len() {
             return;
@@ -54,7 +55,7 @@ impl<S> IxSet<S> {
     // those of the numbers that pass some test, the nodes that pass it are then the members.
     pub(crate) fn change_words<F: Fn(usize, u64) -> u64>(&mut self, f: F)
         requires { F.IsAlwaysCallable f }
-        ensures { (p : ℕ → Bool) → TurnsWords (F.post f) (member self.old) p → IsSetOf (λ n. p n && nat_lt n (node_count self.old)) (node_count self.old) self.new }
+        ensures { (p : ℕ → Bool) → TurnsWords (F.post f) (member self.old) p → BecomesSetOf p self.old self.new }
     {
         let nodes = self.nodes as usize;
         let mut count = 0;

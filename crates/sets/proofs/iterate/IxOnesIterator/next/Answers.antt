@@ -1,9 +1,8 @@
 -- The lowest member of the word ahead comes next, and the others stay.
-use Rattle.std.proofs.Common.{◌≡◌, ◌∷◌, ◌∙◌, ℕ, ◌*◌, ◌%◌, ◌^◌, length, Some, sym, refl, ap, subst, arith, rules}
+use Rattle.std.proofs.Common.{◌≡◌, ◌∷◌, ℕ, ◌*◌, ◌%◌, ◌^◌, length, sym, refl, ap, subst, arith, rules}
 use lib.Bits.{bit_xor}
 use lib.Count.{count_trailing_zeros}
 use Rattle.std.proofs.lemmas.Nat.{one_shl}
-use Rattle.theory.specs.Graphs.{Steps}
 use Rattle.bits.specs.Bits.{listing, pending}
 use Rattle.bits.proofs.Digits.{trailing_here}
 use Rattle.bits.proofs.Cursors.{gives, Gives}
