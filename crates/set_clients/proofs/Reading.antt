@@ -1,8 +1,7 @@
 -- What the contracts of sets say at concrete numbers: the members of a set that was made, and what a cursor gives.
 -- Assumes nothing.
 use Rattle.std.proofs.Common.{◌≡◌, ℕ, List, [], ◌∷◌, Some, None, Ok, Option, refl, subst}
-use Rattle.std.specs.Option.{option_map, option_map_or}
-use Rattle.theory.specs.Graphs.{Steps}
+use Rattle.std.specs.Option.{MatchOption, option_map}
 use Rattle.index.specs.declared.spec.NodeIx.{NodeIx}
 use Rattle.sets.specs.declared.ix_set.IxSet.{IxSet}
 use Rattle.sets.specs.Sets.{IsSetOf}
@@ -13,20 +12,17 @@ made_of nodes xs ys s e none m =
     let h : MakesBy (beyond nodes ys) nodes ys (Ok s) = subst (λ zs. MakesOf nodes zs (Ok s)) e m in
     subst (λ o. MakesBy o nodes ys (Ok s)) none h
 
--- a step of a cursor that has this list to give
-pub step_some : {X : Type 0} (l l' : List X) (r : Option X) (x : X) (xs : List X) → l ≡ (x ∷ xs) → Steps l r l' → (r ≡ Some x) × (l' ≡ xs)
-step_some l l' r x xs e h = subst (λ k. Steps k r l') e h
+-- a cursor that had l to give answered r and has l' left
+abbrev pub Gave : {K : Type 0} → List ℕ → Option (NodeIx K) → List ℕ → Type 0
+Gave l r l' = MatchOption r ((l ≡ []) × (l' ≡ [])) (λ ix. l ≡ ix.0 ∷ l')
 
-pub step_none : {X : Type 0} (l l' : List X) (r : Option X) → l ≡ [] → Steps l r l' → r ≡ None
-step_none l l' r e h = (subst (λ k. Steps k r l') e h).0
+pub gave_first : {K : Type 0} (l l' : List ℕ) (r : Option (NodeIx K)) (n : ℕ) (xs : List ℕ) → l ≡ n ∷ xs → Gave l r l' → (option_map (λ ix. ix.0) r ≡ Some n) × (l' ≡ xs)
+gave_first l l' None n xs e h = cc
+gave_first l l' (Some ix) n xs e h = (cc, cc)
 
-pub number_some : {K : Type 0} (o : Option (NodeIx K)) (n other : ℕ) → option_map (λ x. x.0) o ≡ Some n → option_map_or (λ x. x.0) o other ≡ n
-number_some None n other e = cc
-number_some (Some ix) n other e = cc
+pub gave_none : {K : Type 0} (l l' : List ℕ) (r : Option (NodeIx K)) → l ≡ [] → Gave l r l' → option_map (λ ix. ix.0) r ≡ None
+gave_none l l' None e h = refl
+gave_none l l' (Some ix) e h = cc
 
-pub number_none : {K : Type 0} (o : Option (NodeIx K)) (other : ℕ) → option_map (λ x. x.0) o ≡ None → option_map_or (λ x. x.0) o other ≡ other
-number_none None other e = refl
-number_none (Some ix) other e = cc
-
-pub same_four : (a b c d a' b' c' d' : ℕ) → a ≡ a' → b ≡ b' → c ≡ c' → d ≡ d' → (a ∷ b ∷ c ∷ d ∷ []) ≡ a' ∷ b' ∷ c' ∷ d' ∷ []
+pub same_four : {A : Type 0} (a b c d a' b' c' d' : A) → a ≡ a' → b ≡ b' → c ≡ c' → d ≡ d' → (a ∷ b ∷ c ∷ d ∷ []) ≡ a' ∷ b' ∷ c' ∷ d' ∷ []
 same_four a b c d a' b' c' d' p q r s = cc

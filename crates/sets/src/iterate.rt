@@ -1,12 +1,10 @@
 // The members of a set, ascending. A word that has no member is passed over whole, and the next member of a word is found
 // by its trailing zeros.
 ghost use Rattle.std.specs.Prelude.{◌≡◌, [], length, MatchOption};
-ghost use Rattle.std.specs.Option.{option_map};
-ghost use Rattle.theory.specs.Graphs.{Steps};
+ghost use Rattle.std.specs.Iterator.{YieldsFirstBy, item_count};
 ghost use Rattle.bits.specs.Bits.{Lists};
 ghost use Rattle.sets.specs.Sets.{member, members as members_of};
 ghost use Rattle.sets.specs.Ones.{rest, IsAhead};
-ghost use Rattle.std.specs.Iterator.{at_most};
 
 use crate::ix_set::IxSet;
 use crate::ones::IxOnes;
@@ -53,9 +51,9 @@ impl<'a, S: GraphSpec> IxOnes<'a, S> {
 impl<'a, S: GraphSpec> Iterator for IxOnes<'a, S> {
     type Item = S::Ix;
 
-    ghost next_gives = { λ s r t. Steps (rest s) (option_map S.Ix.IndexType.number r) (rest t) };
+    ghost next_gives = { YieldsFirstBy S.Ix.IndexType.number rest };
 
-    ghost remaining = { λ s. at_most (length (rest s)) };
+    ghost remaining = { item_count rest };
 
     fn next(&mut self) -> Option<S::Ix> {
         let (row, bits) = self.ahead()?;

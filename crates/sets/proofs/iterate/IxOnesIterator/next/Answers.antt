@@ -1,5 +1,5 @@
 -- The lowest member of the word ahead comes next, and the others stay.
-use Rattle.std.proofs.Common.{ℕ, ◌*◌, ◌%◌, ◌^◌, length, Some, sym, refl, ap, subst, arith, rules}
+use Rattle.std.proofs.Common.{◌≡◌, ◌∷◌, ◌∙◌, ℕ, ◌*◌, ◌%◌, ◌^◌, length, Some, sym, refl, ap, subst, arith, rules}
 use lib.Bits.{bit_xor}
 use lib.Count.{count_trailing_zeros}
 use Rattle.std.proofs.lemmas.Nat.{one_shl}
@@ -7,7 +7,7 @@ use Rattle.theory.specs.Graphs.{Steps}
 use Rattle.bits.specs.Bits.{listing, pending}
 use Rattle.bits.proofs.Digits.{trailing_here}
 use Rattle.bits.proofs.Cursors.{gives, Gives}
-use Rattle.sets.specs.Ones.{IsAhead}
+use Rattle.sets.specs.Ones.{rest, IsAhead}
 use Rattle.sets.specs.Sets.{member}
 use Rattle.sets.specs.declared.ones.IxOnes.{IxOnes}
 use Rattle.sets.proofs.iterate.IxOnesIterator.next.Goals as goal
@@ -40,12 +40,8 @@ overflow_add-row g c = omega (arith, (it c.args.self.now c.in_ok-row.row c.in_ok
 
 pub returns : goal.returns
 returns g c =
-    let s = c.args.self.now.set.now in
-    let row = c.in_ok-row.row in
-    let bits = c.in_ok-row.bits in
-    let first = (it c.args.self.now row bits c.in_ok-row.ensures).first in
+    let first = (it c.args.self.now c.in_ok-row.row c.in_ok-row.bits c.in_ok-row.ensures).first in
     record {
-      steps = subst (λ l. Steps l (Some (g.S.Ix.IndexType.number c.new.result)) (listing (pending (member s) row (left bits)) s.nodes)) (sym first)
-          (ap (λ n. Some n) c.new.ensures, refl);
+      steps = subst (λ n. rest c.args.self.now ≡ n ∷ listing (pending (member c.args.self.now.set.now) c.in_ok-row.row (left c.in_ok-row.bits)) c.args.self.now.set.now.nodes) (sym c.new.ensures) first;
       goes = firm ((tt, tt, (let less = ap length first in omega arith))) (λ h. search rules);
     }
