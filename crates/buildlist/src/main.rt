@@ -1,8 +1,10 @@
 // Build lists: reads an order file from standard input and writes one line for each answer (docs/ORDER-FILE.md).
 // The work is done by proved functions: a line is read by the crate `records`, graphs are laid by `draft`, answers are
-// worded by `orders`. `session` has what follows what, and `kinds` what differs between the two kinds of graphs.
+// worded by `orders`. `session` has what follows what, `kinds` what differs between the two kinds of graphs, and
+// `answers` the way out.
 #![tactic(auto)]
 
+mod answers;
 mod kinds;
 mod session;
 
