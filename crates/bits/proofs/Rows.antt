@@ -39,11 +39,9 @@ parts : (ws : List ℕ) (i n : ℕ) → get_or ws i 0 < 2 ^ 64
     → how_many (has ws) (i * 64 + (64 + n)) ≡ how_many (has ws) (i * 64) + (ones (get_or ws i 0) + how_many (λ k. has ws (i * 64 + (64 + k))) n)
 parts ws i n fits =
     let w = get_or ws i 0 in
-    count_add (has ws) (i * 64) (64 + n)
-    ∙ ap (λ x. how_many (has ws) (i * 64) + x) (
-    count_add (λ k. has ws (i * 64 + k)) 64 n
-    ∙ ap (λ x. x + how_many (λ k. has ws (i * 64 + (64 + k))) n)
-    (count_ext (λ k. has ws (i * 64 + k)) (bit w) 64 (λ k b. sym (word_has ws i k b)) ∙ sym (ones_count 64 w fits)))
+    let word : how_many (λ k. has ws (i * 64 + k)) 64 ≡ ones w =
+    count_ext (λ k. has ws (i * 64 + k)) (bit w) 64 (λ k b. sym (word_has ws i k b)) ∙ sym (ones_count 64 w fits) in
+    omega (arith, count_add (has ws) (i * 64) (64 + n), count_add (λ k. has ws (i * 64 + k)) 64 n, word)
 
 -- nothing stands at or beyond n
 abbrev pub Below : List ℕ → ℕ → Type 0
@@ -152,8 +150,7 @@ module _ {ws : List ℕ} {n old x : ℕ} (h : Put ws n old x) where
         has_set_here ws (n / 64) (bit_or old x) k h.inside e ∙ bit-bit_or old x (k % 64)
         ∙ ap₂ (λ a b. a || b) (ap (λ y. bit y (k % 64)) (h.was ∙ ap (λ j. get_or ws j 0) (sym e))) (ap (λ y. bit y (k % 64)) h.lone ∙ bit_lone (n % 64) (k % 64) ∙ same_place k e)
     | inr d ↦
-        has_set_there ws (n / 64) (bit_or old x) k d
-        ∙ sym (ap (λ y. has ws k || y) (ne_eqb k n (λ q. d (ap (λ y. y / 64) q))) ∙ or-false (has ws k))
+        rw (ne_eqb k n (λ q. d (ap (λ y. y / 64) q)), or-false) (has_set_there ws (n / 64) (bit_or old x) k d)
   ]
 
   pub put_below : (m : ℕ) → n < m → Below ws m → Below (set ws (n / 64) (bit_or old x)) m

@@ -1,8 +1,9 @@
 -- What the states say of an edge that arrives. Assumes nothing.
-use Rattle.std.proofs.Common.{◌≡◌, ℕ, zero, suc, ◌+◌, ◌<◌, ◌≤◌, Bool, true, false, cond, not, ◌&&◌, ◌||◌, T, eqb, ◌⊎◌, List, [], ◌∷◌, ◌++◌, length, get_or, Some, None, filter, Option, sym, refl, ap, ◌∙◌, subst, inl, inr, append-nil, arith, eqb→eq, ◌≢◌}
-use lib.Dec.{eqb_refl}
+use Rattle.std.proofs.Common.{◌≡◌, ℕ, zero, suc, ◌+◌, ◌<◌, ◌≤◌, Bool, true, false, cond, not, ◌&&◌, eqb, ◌⊎◌, List, [], ◌∷◌, ◌++◌, length, get_or, Some, None, filter, Option, sym, refl, ap, ◌∙◌, subst, inl, inr, true≢false, append-nil, arith, ◌≢◌}
+use mathlib.Core.Bool.{and-true, and-false}
 use Rattle.std.specs.List.{slice_get}
 use Rattle.std.proofs.lemmas.Option.{slice_get-get_or, slice_get_past}
+use Rattle.std.proofs.lemmas.Bool.{or_cases, or_left, or_right, and_parts, and_from, eqb-true, eq-eqb, false_from_ne_true}
 use Rattle.std.proofs.lemmas.List.Elements.{filter-append}
 use Rattle.theory.specs.Rules.{was_told, held_for}
 use Rattle.buffers.specs.Rules.{links, waiting, wanted}
@@ -18,47 +19,19 @@ use Rattle.buffers.specs.declared.states.Event.TheVariants.{Arrives}
 use Rattle.buffers.specs.declared.states.Outcome.{Outcome}
 use Rattle.buffers.specs.declared.states.Outcome.TheVariants.{Judges}
 
-is_true : (b : Bool) → T b → b ≡ true
-is_true true h = refl
-is_true false h = absurd h
-
-not-true : (b : Bool) → (T b → ⊥) → b ≡ false
-not-true true h = absurd (h tt)
-not-true false h = refl
-
-and_parts : (a b : Bool) → T (a && b) → T a × T b
-and_parts true b t = (tt, t)
-and_parts false b t = absurd t
-
-and_both : (a b : Bool) → T a → T b → T (a && b)
-and_both true b s t = t
-and_both false b s t = absurd s
-
-or_cases : (a b : Bool) → T (a || b) → T a ⊎ T b
-or_cases true b t = inl tt
-or_cases false b t = inr t
-
-or_left : (a b : Bool) → T a → T (a || b)
-or_left true b t = tt
-or_left false b t = absurd t
-
-or_right : (a b : Bool) → T b → T (a || b)
-or_right true b t = tt
-or_right false b t = t
-
-pub told_some : (nodes : List ℕ) (ss : List SingleBufferState) (w : ℕ) → T (told_by nodes ss w) → (j : ℕ) × (j < length nodes) × (get_or nodes j 0 ≡ w) × T (is_out (state_of ss j))
-told_some [] ss w t = absurd t
-told_some (n ∷ ns) [] w t = absurd t
-told_some (n ∷ ns) (s ∷ ss) w t = go (λ u. told_some ns ss w u) (or_cases (eqb n w && is_out s) (told_by ns ss w) t)
+pub told_some : (nodes : List ℕ) (ss : List SingleBufferState) (w : ℕ) → told_by nodes ss w ≡ true → (j : ℕ) × (j < length nodes) × (get_or nodes j 0 ≡ w) × (is_out (state_of ss j) ≡ true)
+told_some [] ss w t = absurd (true≢false (sym t))
+told_some (n ∷ ns) [] w t = absurd (true≢false (sym t))
+told_some (n ∷ ns) (s ∷ ss) w t = go (told_some ns ss w) (or_cases (eqb n w && is_out s) (told_by ns ss w) t)
   where
-    go : (T (told_by ns ss w) → (j : ℕ) × (j < length ns) × (get_or ns j 0 ≡ w) × T (is_out (state_of ss j))) → T (eqb n w && is_out s) ⊎ T (told_by ns ss w) → (j : ℕ) × (j < suc (length ns)) × (get_or (n ∷ ns) j 0 ≡ w) × T (is_out (state_of (s ∷ ss) j))
-    go below (inl u) = let p = and_parts (eqb n w) (is_out s) u in (zero, omega arith, eqb→eq n w p.0, p.1)
+    go : (told_by ns ss w ≡ true → (j : ℕ) × (j < length ns) × (get_or ns j 0 ≡ w) × (is_out (state_of ss j) ≡ true)) → ((eqb n w && is_out s) ≡ true) ⊎ (told_by ns ss w ≡ true) → (j : ℕ) × (j < suc (length ns)) × (get_or (n ∷ ns) j 0 ≡ w) × (is_out (state_of (s ∷ ss) j) ≡ true)
+    go below (inl u) = let p = and_parts (eqb n w) (is_out s) u in (zero, omega arith, eqb-true n w p.0, p.1)
     go below (inr u) = let p = below u in (suc p.0, omega (arith, p.1), p.2, p.3)
 
-some_told : (nodes : List ℕ) (ss : List SingleBufferState) (w j : ℕ) → j < length nodes → get_or nodes j 0 ≡ w → T (is_out (state_of ss j)) → T (told_by nodes ss w)
+some_told : (nodes : List ℕ) (ss : List SingleBufferState) (w j : ℕ) → j < length nodes → get_or nodes j 0 ≡ w → is_out (state_of ss j) ≡ true → told_by nodes ss w ≡ true
 some_told [] ss w j l e t = absurd (omega arith)
-some_told (n ∷ ns) [] w j l e t = absurd t
-some_told (n ∷ ns) (s ∷ ss) w zero l e t = or_left _ _ (and_both (eqb n w) (is_out s) (subst (λ v. T (eqb n v)) e (eqb_refl n)) t)
+some_told (n ∷ ns) [] w j l e t = absurd (true≢false (sym t))
+some_told (n ∷ ns) (s ∷ ss) w zero l e t = or_left _ _ (and_from (eqb n w) (is_out s) (eq-eqb n w e) t)
 some_told (n ∷ ns) (s ∷ ss) w (suc j) l e t = or_right (eqb n w && is_out s) _ (some_told ns ss w j (omega arith) e t)
 
 abbrev pub Agree : List ℕ → List SingleBufferState → Type 0
@@ -69,21 +42,16 @@ pub told_at : (nodes : List ℕ) (ss : List SingleBufferState) (i : ℕ) → i <
 told_at nodes ss i l agree = go (is_out (state_of ss i)) refl
   where
     go : (b : Bool) → is_out (state_of ss i) ≡ b → told_by nodes ss (get_or nodes i 0) ≡ b
-    go true e = is_true _ (some_told nodes ss (get_or nodes i 0) i l refl (subst T (sym e) tt))
-    go false e = not-true _ (λ t. let p = told_some nodes ss (get_or nodes i 0) t in subst T (agree p.0 i p.1 l p.2 ∙ e) p.3)
-
-both_same : (a b : Bool) → (T a → T b) → (T b → T a) → a ≡ b
-both_same true true f g = refl
-both_same true false f g = absurd (f tt)
-both_same false true f g = absurd (g tt)
-both_same false false f g = refl
+    go true e = some_told nodes ss (get_or nodes i 0) i l refl e
+    go false e = false_from_ne_true _ (λ t. let p = told_some nodes ss (get_or nodes i 0) t in true≢false (sym p.3 ∙ agree p.0 i p.1 l p.2 ∙ e))
 
 -- told depends on who is out only
 pub told_ext : (nodes : List ℕ) (ss ss' : List SingleBufferState) → ((j : ℕ) → is_out (state_of ss' j) ≡ is_out (state_of ss j)) → told_by nodes ss' ≡ told_by nodes ss
-told_ext nodes ss ss' h = λ t w. point w t
+told_ext nodes ss ss' h = λ t w. point w (told_by nodes ss w) refl t
   where
-    point : (w : ℕ) → told_by nodes ss' w ≡ told_by nodes ss w
-    point w = both_same _ _ (λ t. let p = told_some nodes ss' w t in some_told nodes ss w p.0 p.1 p.2 (subst T (h p.0) p.3)) (λ t. let p = told_some nodes ss w t in some_told nodes ss' w p.0 p.1 p.2 (subst T (sym (h p.0)) p.3))
+    point : (w : ℕ) (b : Bool) → told_by nodes ss w ≡ b → told_by nodes ss' w ≡ told_by nodes ss w
+    point w true e = let p = told_some nodes ss w e in some_told nodes ss' w p.0 p.1 p.2 (h p.0 ∙ p.3) ∙ sym e
+    point w false e = false_from_ne_true _ (λ t. let p = told_some nodes ss' w t in true≢false (sym (some_told nodes ss w p.0 p.1 p.2 (sym (h p.0) ∙ p.3)) ∙ e)) ∙ sym e
 
 waits_ext : (ss ss' : List SingleBufferState) → ((j : ℕ) → is_out (state_of ss' j) ≡ is_out (state_of ss j)) → (l : Option EdgeLinks) → waits_in ss' l ≡ waits_in ss l
 waits_ext ss ss' h None = refl
@@ -93,14 +61,6 @@ waits_ext ss ss' h (Some (Weak q o i)) = ap not (h i.0)
 cond_same : {X : Type 0} (a : Bool) (x : X) → cond a x x ≡ x
 cond_same true x = refl
 cond_same false x = refl
-
-and-false : (a : Bool) → (a && false) ≡ false
-and-false true = refl
-and-false false = refl
-
-and-true : (a : Bool) → (a && true) ≡ a
-and-true true = refl
-and-true false = refl
 
 module _ (nodes : List ℕ) (ss : List SingleBufferState) (used : ℕ) (hold : List Entry) (e : Ref) (q : Option Link) (o : Link) (i : ℕ) (is : links (meaning e) ≡ Some (Weak q o (record { 0 = i }))) (ok : Okay nodes ss used hold) where
   waits_is : (acc : Link → Bool) → waiting acc nodes (links (meaning e)) ≡ cond (acc o) (slice_get nodes i) None

@@ -1,6 +1,7 @@
 -- Chains of places, and an edge that joins its chain. Assumes nothing.
-use Rattle.std.proofs.Common.{◌≡◌, ℕ, zero, suc, ◌+◌, ◌<◌, ◌≤◌, Bool, true, false, T, ◌≢◌, List, [], ◌∷◌, ◌++◌, map, length, get_or, take, set, Some, None, Option, sym, refl, ap, ◌∙◌, subst, true≢false, arith, eqb→eq, length-set, get_or-set_other, get_or-set_same}
+use Rattle.std.proofs.Common.{◌≡◌, ℕ, zero, suc, ◌+◌, ◌<◌, ◌≤◌, Bool, true, false, ◌≢◌, List, [], ◌∷◌, ◌++◌, map, length, get_or, take, set, Some, None, Option, sym, refl, ap, ◌∙◌, subst, true≢false, arith, length-set, get_or-set_other, get_or-set_same}
 use native.Mathlib.Decide.{dec_lt, ℕ_discrete}
+use Rattle.std.proofs.lemmas.Bool.{eqb-true, false_from_ne_true}
 use Rattle.std.proofs.lemmas.List.{take_more_set, take_more, map-append}
 use Rattle.buffers.specs.Rules.{links, at_index}
 use Rattle.buffers.specs.Buffers.{Ref, Entry, meaning, is_out, state_of, edge_of, lying, at_place, next_of, Void, Next, Last, Linked, Chained, extended, linked_with, relinked, Ready, Joins, Met}
@@ -135,11 +136,7 @@ last_not a n l k j t w e = void_not a (suc l) n j t.2 (omega (arith, w.0)) w.1 w
 pub at_one : (i j : ℕ) (l : Option EdgeLinks) → at_index i l ≡ true → at_index j l ≡ true → i ≡ j
 at_one i j None x y = absurd (true≢false (sym x))
 at_one i j (Some (NonWeak m)) x y = absurd (true≢false (sym x))
-at_one i j (Some (Weak q o k)) x y = sym (eqb→eq k.0 i (subst T (sym x) tt)) ∙ eqb→eq k.0 j (subst T (sym y) tt)
-
-pub not-true : (b : Bool) → (b ≡ true → ⊥) → b ≡ false
-not-true true h = absurd (h refl)
-not-true false h = refl
+at_one i j (Some (Weak q o k)) x y = sym (eqb-true k.0 i x) ∙ eqb-true k.0 j y
 
 place_one : (i j : ℕ) (hold : List Entry) (k : ℕ) → at_place i hold k ≡ true → at_place j hold k ≡ true → i ≡ j
 place_one i j [] k x y = absurd (true≢false (sym x))
@@ -224,7 +221,7 @@ module _ (hold : List Entry) (used : ℕ) (e : Ref) (room : used < length hold) 
       foreign j n s c = go s c
         where
           none : at_place j (now chain) used ≡ false
-          none = not-true (at_place j (now chain) used) (λ t. n (at_one j i (links (meaning e)) (sym (new chain j) ∙ t) at))
+          none = false_from_ne_true (at_place j (now chain) used) (λ t. n (at_one j i (links (meaning e)) (sym (new chain j) ∙ t) at))
 
           link : Linked j used hold → (k : ℕ) → k < used + 1 → at_place j (now chain) k ≡ true → Dec (k ≡ used) → Next (at_place j (now chain)) (used + 1) (suc k) (next_of (now chain) k)
           link l k h t (yes y) = absurd (true≢false (sym t ∙ ap (at_place j (now chain)) y ∙ none))

@@ -1,14 +1,16 @@
 -- A feature rule is fair: a told node lets out what waits on it, as often as it is held. Assumes nothing.
-use Rattle.std.proofs.Common.{◌≡◌, ℕ, zero, suc, ◌+◌, ◌<◌, Bool, true, false, cond, ◌&&◌, T, eqb, ◌⊎◌, List, [], ◌∷◌, ◌++◌, length, get_or, Some, None, filter, Option, sym, refl, ap, ◌∙◌, subst, inl, inr, ⊎_elim, true≢false, arith, eqb→eq, length-append}
+use Rattle.std.proofs.Common.{◌≡◌, ℕ, zero, suc, ◌+◌, ◌<◌, Bool, true, false, cond, ◌&&◌, eqb, ◌⊎◌, List, [], ◌∷◌, ◌++◌, length, get_or, Some, None, filter, Option, sym, refl, ap, ◌∙◌, subst, inl, inr, ⊎_elim, true≢false, arith, length-append}
 use native.Mathlib.Decide.{dec_lt, ℕ_discrete}
-use lib.Dec.{eqb_refl}
+use mathlib.Core.Bool.{and-true, and-false}
 use Rattle.std.specs.List.{slice_get}
+use Rattle.std.proofs.lemmas.Bool.{and_left, eqb-true, eq-eqb, ne_eqb}
 use Rattle.std.proofs.lemmas.Option.{slice_get-get_or, slice_get_past}
 use Rattle.std.proofs.lemmas.List.Elements.{filter-append}
 use Rattle.theory.specs.Rules.{is_node, waits_on, Fair}
 use Rattle.theory.proofs.Kept.{in_kept, kept_in}
 use Rattle.index.specs.declared.direction.DependencyDirection.{DependencyDirection}
 use Rattle.index.specs.declared.direction.DependencyDirection.TheVariants.{Forward, Reverse}
+use Rattle.buffers.proofs.Releasing.{kept_false}
 use Rattle.buffers.specs.Rules.{links, waiting, wanted, at_index, goes_out, freed, feature_rule}
 use Rattle.index.specs.declared.links.Link.{Link}
 use Rattle.theory.specs.Edges.{Edge, In}
@@ -29,10 +31,6 @@ in_cases : {X : Type 0} (x : X) (xs ys : List X) → In x (xs ++ ys) → In x xs
 in_cases x [] ys i = inr i
 in_cases x (y ∷ xs) ys (inl e) = inl (inl e)
 in_cases x (y ∷ xs) ys (inr i) = ⊎_elim (λ j. inl (inr j)) inr (in_cases x xs ys i)
-
-is_true : (b : Bool) → T b → b ≡ true
-is_true true h = refl
-is_true false h = absurd h
 
 one : Bool → ℕ
 one true = 1
@@ -88,10 +86,6 @@ module _ (acc : Link → Bool) (nodes : List ℕ) (n : ℕ) where
       split true u v = refl
       split false u v = refl
 
-  and-false : (a : Bool) → (a && false) ≡ false
-  and-false true = refl
-  and-false false = refl
-
   no_times : (x : Edge FeatureEdge) (k : ℕ) → ((j : ℕ) → j < k → goes_out acc j x ≡ false) → times x k ≡ 0
   unfolding times one
   no_times x zero h = refl
@@ -101,11 +95,7 @@ module _ (acc : Link → Bool) (nodes : List ℕ) (n : ℕ) where
       omega (arith, a, b)
 
   not_at : (j i : ℕ) → (i ≡ j → ⊥) → (b : Bool) → (eqb i j && b) ≡ false
-  not_at j i z b = go (eqb i j) refl
-    where
-      go : (a : Bool) → eqb i j ≡ a → (a && b) ≡ false
-      go true e = absurd (z (eqb→eq i j (subst T (sym e) tt)))
-      go false e = refl
+  not_at j i z b = and_left (eqb i j) b (ne_eqb i j z)
 
   -- an edge at index i goes out once, if its node is told and its optional link is accepted
   weak_times : (x : Edge FeatureEdge) (i : ℕ) (w : Bool) → ((j : ℕ) → goes_out acc j x ≡ (eqb i j && w)) → (k : ℕ) → i < k → times x k ≡ one (eqb (get_or nodes i 0) n && w)
@@ -116,7 +106,7 @@ module _ (acc : Link → Bool) (nodes : List ℕ) (n : ℕ) where
       go : (i < k → times x k ≡ one (eqb (get_or nodes i 0) n && w)) → Dec (i ≡ k) → times x k + one (eqb (get_or nodes k 0) n && goes_out acc k x) ≡ one (eqb (get_or nodes i 0) n && w)
       go rec (yes y) =
           let a = no_times x k (λ j m. h j ∙ not_at j i (omega arith) w) in
-          let b : goes_out acc k x ≡ w = h k ∙ ap (λ v. v && w) (subst (λ v. eqb i v ≡ true) y (is_true (eqb i i) (eqb_refl i))) in
+          let b : goes_out acc k x ≡ w = h k ∙ ap (λ v. v && w) (eq-eqb i k y) in
           let c : one (eqb (get_or nodes k 0) n && goes_out acc k x) ≡ one (eqb (get_or nodes i 0) n && w) = ap (λ v. one (eqb (get_or nodes k 0) n && v)) b ∙ ap (λ v. one (eqb (get_or nodes v 0) n && w)) (sym y) in
           omega (arith, a, c)
       go rec (no z) =
@@ -142,10 +132,6 @@ module _ (acc : Link → Bool) (nodes : List ℕ) (n : ℕ) where
 
       some : (a : Bool) (m : ℕ) → (eqb m n && a) ≡ is_node n (cond a (Some m) None)
       some true m = and-true (eqb m n)
-        where
-          and-true : (b : Bool) → (b && true) ≡ b
-          and-true true = refl
-          and-true false = refl
       some false m = and-false (eqb m n)
 
       go : Dec (i < length nodes) → times x (length nodes) ≡ one (is_node n (cond (acc o) (slice_get nodes i) None))
@@ -196,25 +182,22 @@ module _ (acc : Link → Bool) (nodes : List ℕ) (n : ℕ) where
   out_waits e (Some (Weak r o k)) q j h b g = go (eqb k.0 j) refl (acc o) (sym (ap (λ v. at_index j v && wanted acc v) q) ∙ g)
     where
       go : (x : Bool) → eqb k.0 j ≡ x → (a : Bool) → (x && a) ≡ true → cond a (slice_get nodes k.0) None ≡ Some n
-      go true y true z = let s = eqb→eq k.0 j (subst T (sym y) tt) in ap (slice_get nodes) s ∙ slice_get-get_or nodes j 0 h ∙ ap Some (eqb→eq (get_or nodes j 0) n (subst T (sym b) tt))
+      go true y true z = let s = eqb-true k.0 j y in ap (slice_get nodes) s ∙ slice_get-get_or nodes j 0 h ∙ ap Some (eqb-true (get_or nodes j 0) n b)
       go true y false z = absurd (true≢false (sym z))
       go false y a z = absurd (true≢false (sym z))
 
   waits_out : (e : Edge FeatureEdge) (l : Option EdgeLinks) → links e ≡ l → waiting acc nodes l ≡ Some n → (j : ℕ) × (j < length nodes) × (eqb (get_or nodes j 0) n ≡ true) × (goes_out acc j e ≡ true)
-  waits_out e None q w = absurd (true≢false (sym (ap (is_node n) w ∙ is_true (eqb n n) (eqb_refl n))))
-  waits_out e (Some (NonWeak m)) q w = absurd (true≢false (sym (ap (is_node n) w ∙ is_true (eqb n n) (eqb_refl n))))
+  waits_out e None q w = absurd cc
+  waits_out e (Some (NonWeak m)) q w = absurd cc
   waits_out e (Some (Weak r o x)) q w = go (dec_lt x.0 (length nodes)) (acc o) refl w
     where
       i : ℕ
       i = x.0
 
-      here : T (is_node n (Some n))
-      here = eqb_refl n
-
       go : Dec (i < length nodes) → (a : Bool) → acc o ≡ a → cond a (slice_get nodes i) None ≡ Some n → (j : ℕ) × (j < length nodes) × (eqb (get_or nodes j 0) n ≡ true) × (goes_out acc j e ≡ true)
-      go d false z v = absurd (subst (λ k. T (is_node n k)) (sym v) here)
-      go (no y) true z v = absurd (subst (λ k. T (is_node n k)) (sym v ∙ slice_get_past nodes i (omega arith)) here)
-      go (yes y) true z v = (i, y, is_true (eqb (get_or nodes i 0) n) (subst (λ k. T (is_node n k)) (sym v ∙ slice_get-get_or nodes i 0 y) here), ap (λ k. at_index i k && wanted acc k) q ∙ ap (λ k. eqb i i && k) z ∙ ap (λ k. k && true) (is_true (eqb i i) (eqb_refl i)))
+      go d false z v = absurd cc
+      go (no y) true z v = absurd (let p = slice_get_past nodes i (omega arith) in cc)
+      go (yes y) true z v = (i, y, eq-eqb _ _ (let p = slice_get-get_or nodes i 0 y in cc), ap (λ k. at_index i k && wanted acc k) q ∙ ap (λ k. eqb i i && k) z ∙ ap (λ k. k && true) (eq-eqb i i refl))
 
 pub feature_fair : (acc : Link → Bool) (nodes : List ℕ) (d : DependencyDirection) → Fair (feature_rule acc nodes d)
 feature_fair acc nodes Forward = record {
@@ -224,10 +207,6 @@ feature_fair acc nodes Forward = record {
 }
 feature_fair acc nodes Reverse = record {
   only = λ n held e i. absurd i;
-  all = λ n held e i w. absurd (let z : ◌≡◌ {A = ℕ} 0 1 = cc in omega arith);
-  each = λ n held p. sym (ap (λ l. length (filter p l)) (none held));
+  all = λ n held e i w. absurd cc;
+  each = λ n held p. sym (ap (λ l. length (filter p l)) (kept_false held));
 }
-  where
-    none : (held : List (Edge FeatureEdge)) → filter (λ _. false) held ≡ []
-    none [] = refl
-    none (x ∷ xs) = none xs

@@ -1,13 +1,9 @@
 -- The links that lead through the indexes of a bucket give those that a node releases. Assumes nothing.
-use Rattle.std.proofs.Common.{◌≡◌, ℕ, zero, suc, ◌+◌, ◌-◌, ◌%◌, ◌<◌, ◌≤◌, Bool, true, false, cond, T, eqb, List, ◌∷◌, length, get_or, Some, None, Option, sym, refl, ap, ◌∙◌, subst, true≢false, arith, eqb→eq}
+use Rattle.std.proofs.Common.{◌≡◌, ℕ, zero, suc, ◌+◌, ◌-◌, ◌%◌, ◌<◌, ◌≤◌, Bool, true, false, cond, eqb, List, ◌∷◌, length, get_or, Some, None, Option, sym, refl, ap, ◌∙◌, subst, true≢false, arith}
 use native.Mathlib.Decide.{ℕ_discrete}
-use lib.Dec.{eqb_refl}
+use Rattle.std.proofs.lemmas.Bool.{eqb-true, eq-eqb, ne_eqb}
 use Rattle.buffers.specs.Buffers.{seek, in_bucket, of_node, released, left, Inside, Firsts, Nexts, Next}
 use Rattle.buffers.proofs.Following.{left_to}
-
-is_true : (b : Bool) → T b → b ≡ true
-is_true true h = refl
-is_true false h = absurd h
 
 seek_next : (at : ℕ → Bool) (k m : ℕ) → Next at (k + m) k (seek at k m)
 seek_next at k zero = λ i a b. absurd (omega arith)
@@ -37,8 +33,8 @@ module _ (nodes : List ℕ) (n : ℕ) where
       go : (b : Bool) → eqb (get_or nodes i 0) n ≡ b → b ≡ false
       go false e = refl
       go true e =
-          let same : get_or nodes i 0 ≡ n = eqb→eq (get_or nodes i 0) n (subst T (sym e) tt) in
-          absurd (true≢false (sym (ap (λ x. eqb (x % 4096) (n % 4096)) same ∙ is_true _ (eqb_refl (n % 4096))) ∙ v))
+          let same = eqb-true (get_or nodes i 0) n e in
+          absurd (true≢false (sym (eq-eqb _ _ (ap (λ x. x % 4096) same)) ∙ v))
 
   seek_left : (k m : ℕ) → k + m ≡ length nodes → left nodes n (seek bucket k m) ≡ released nodes n k m
   seek_left k zero e = refl
@@ -75,7 +71,7 @@ module _ (nodes : List ℕ) (n : ℕ) where
   pub stepped : (nexts : List (Option ℕ)) (link : Option ℕ) (i : ℕ) → Nexts nodes nexts → link ≡ Some i → Inside nodes n link → Stepped link (get_or nexts i None) i
   stepped nexts link i f q w =
       let own = w i q in
-      let same : get_or nodes i 0 % 4096 ≡ n % 4096 = eqb→eq _ _ (subst T (sym own.1) tt) in
+      let same : get_or nodes i 0 % 4096 ≡ n % 4096 = eqb-true _ _ own.1 in
       let e : get_or nexts i None ≡ seek bucket (i + 1) (length nodes - (i + 1)) = f i (omega arith) own.0 ∙ ap (λ b. seek (in_bucket nodes b) (i + 1) (length nodes - (i + 1))) same in
       let l = own.0 in
       let z : (i + 1) + (length nodes - (i + 1)) ≡ length nodes = omega arith in
@@ -90,10 +86,6 @@ module _ (nodes : List ℕ) (n : ℕ) where
         low = l;
         inside_next = inside (i + 1) _ t;
         less = subst (λ v. left_to (length nodes) (get_or nexts i None) < left_to (length nodes) v) (sym q) (later i _ l t);
-        hit = λ y. here ∙ ap (λ b. cond b (i ∷ released nodes n (suc i) (length nodes - (i + 1))) (released nodes n (suc i) (length nodes - (i + 1)))) (is_true _ (subst (λ v. T (eqb (get_or nodes i 0) v)) y (eqb_refl (get_or nodes i 0)))) ∙ ap (λ r. i ∷ r) rest;
-        miss = λ y. here ∙ ap (λ b. cond b (i ∷ released nodes n (suc i) (length nodes - (i + 1))) (released nodes n (suc i) (length nodes - (i + 1)))) (is_false (eqb (get_or nodes i 0) n) (λ x. y (eqb→eq (get_or nodes i 0) n x))) ∙ rest;
+        hit = λ y. here ∙ ap (λ b. cond b (i ∷ released nodes n (suc i) (length nodes - (i + 1))) (released nodes n (suc i) (length nodes - (i + 1)))) (eq-eqb (get_or nodes i 0) n y) ∙ ap (λ r. i ∷ r) rest;
+        miss = λ y. here ∙ ap (λ b. cond b (i ∷ released nodes n (suc i) (length nodes - (i + 1))) (released nodes n (suc i) (length nodes - (i + 1)))) (ne_eqb (get_or nodes i 0) n y) ∙ rest;
       }
-    where
-      is_false : (b : Bool) → (T b → ⊥) → b ≡ false
-      is_false true h = absurd (h tt)
-      is_false false h = refl

@@ -1,5 +1,6 @@
 -- What an index makes of its release node being told. Assumes nothing.
-use Rattle.std.proofs.Common.{◌≡◌, ℕ, zero, suc, ◌<◌, ◌≤◌, Bool, true, false, cond, not, ◌&&◌, T, eqb, ◌⊎◌, List, [], ◌∷◌, map, length, take, set, Some, None, filter, Option, sym, refl, ap, ◌∙◌, subst, inl, inr, true≢false, arith, eqb→eq, length-set, get_or-set_other, get_or-set_same}
+use Rattle.std.proofs.Common.{◌≡◌, ℕ, zero, suc, ◌<◌, ◌≤◌, Bool, true, false, cond, not, ◌&&◌, eqb, ◌⊎◌, List, [], ◌∷◌, map, length, take, set, Some, None, filter, Option, sym, refl, ap, ◌∙◌, subst, inl, inr, true≢false, arith, length-set, get_or-set_other, get_or-set_same}
+use Rattle.std.proofs.lemmas.Bool.{eqb-true}
 use Rattle.std.proofs.lemmas.List.{length-take-le}
 use Rattle.buffers.specs.Rules.{links, wanted, at_index, goes_out}
 use Rattle.buffers.specs.Buffers.{Entry, edge_of, is_out, state_of, waits_in, held_one, lying, held_in, at_place, next_of, Next, Linked, Chained, Met, Moved}
@@ -52,7 +53,7 @@ goes_held acc ss i e h = go (links e) h
     go (Some (Weak q o x)) z = step (eqb x.0 i) refl (acc o) z
       where
         step : (a : Bool) → eqb x.0 i ≡ a → (b : Bool) → (a && b) ≡ true → (b && not (is_out (state_of ss x.0))) ≡ not (is_out (state_of ss i))
-        step true y true w = ap (λ v. not (is_out (state_of ss v))) (eqb→eq x.0 i (subst T (sym y) tt))
+        step true y true w = ap (λ v. not (is_out (state_of ss v))) (eqb-true x.0 i y)
         step true y false w = absurd (true≢false (sym w))
         step false y b w = absurd (true≢false (sym w))
 

@@ -1,10 +1,11 @@
 -- A node is told: how far the walk along its indexes has come, and what it comes to. Assumes nothing.
-use Rattle.std.proofs.Common.{◌≡◌, ℕ, zero, suc, ◌+◌, ◌-◌, ◌<◌, ◌≤◌, Bool, true, false, cond, not, ◌&&◌, ◌||◌, T, eqb, List, [], ◌∷◌, ◌++◌, length, get_or, map, take, Some, None, filter, Option, sym, refl, ap, ◌∙◌, subst, true≢false, append-nil, arith, eqb→eq, length-append}
+use Rattle.std.proofs.Common.{◌≡◌, ℕ, zero, suc, ◌+◌, ◌-◌, ◌<◌, ◌≤◌, Bool, true, false, cond, not, ◌&&◌, ◌||◌, eqb, List, [], ◌∷◌, ◌++◌, length, get_or, map, take, Some, None, filter, Option, sym, refl, ap, ◌∙◌, subst, true≢false, append-nil, arith, length-append}
 use native.Mathlib.Decide.{dec_lt, ℕ_discrete}
-use lib.Dec.{eqb_refl}
+use mathlib.Core.Bool.{and-true, and-false, or-true, or-false}
 use lib.ListN.{length-map}
 use Rattle.std.specs.List.{slice_get}
 use Rattle.std.proofs.lemmas.Option.{slice_get-get_or, slice_get_past}
+use Rattle.std.proofs.lemmas.Bool.{eqb-true, eq-eqb, ne_eqb}
 use Rattle.std.proofs.lemmas.List.{length-take-le, take-append-le, map-append}
 use Rattle.std.proofs.lemmas.List.Filters.{length-filter_both}
 use Rattle.theory.specs.Rules.{is_node, waits_on, stays_at}
@@ -23,14 +24,6 @@ use Rattle.buffers.specs.declared.states.SingleBufferState.TheVariants.{Buffered
 use Rattle.buffers.proofs.Arriving.{Agree, told_at}
 use Rattle.buffers.proofs.Releasing.{kept_agree, kept_true, goes_held}
 use Rattle.buffers.proofs.Fairness.{freed_each, feature_fair}
-
-is_true : (b : Bool) → T b → b ≡ true
-is_true true h = refl
-is_true false h = absurd h
-
-not-true : (b : Bool) → (T b → ⊥) → b ≡ false
-not-true true h = absurd (h tt)
-not-true false h = refl
 
 -- what the list of the indexes that a node releases says of its first, and of there being none
 abbrev First : List ℕ → ℕ → ℕ → ℕ → ℕ → List ℕ → Type 0
@@ -160,11 +153,11 @@ module _ (acc : Link → Bool) (nodes : List ℕ) (n : ℕ) (ss₀ : List Single
       here : (t.k ≤ i) × (i < t.k + (length nodes - t.k)) × (of_node nodes n i ≡ true) × Void (of_node nodes n) t.k i × (rest ≡ released nodes n (suc i) ((t.k + (length nodes - t.k)) - suc i))
       here = released_first nodes n t.k (length nodes - t.k) i rest (sym t.next ∙ q)
 
-      pub index_ok : i < length nodes
+      index_ok : i < length nodes
       index_ok = let a = here.1 in let b = t.below in omega arith
 
       node_is : get_or nodes i 0 ≡ n
-      node_is = eqb→eq (get_or nodes i 0) n (subst T (sym here.2) tt)
+      node_is = eqb-true (get_or nodes i 0) n here.2
 
       state_is : state_of ss i ≡ state_of ss₀ i
       state_is = t.miss i (λ h e. let a = here.0 in omega arith)
@@ -185,12 +178,12 @@ module _ (acc : Link → Bool) (nodes : List ℕ) (n : ℕ) (ss₀ : List Single
         where
           go : Dec (j < t.k) → j < t.k
           go (yes y) = y
-          go (no w) = absurd (true≢false (sym (is_true (of_node nodes n j) (subst (λ v. T (eqb (get_or nodes j 0) v)) e (eqb_refl (get_or nodes j 0)))) ∙ here.3 j (omega arith) h))
+          go (no w) = absurd (true≢false (sym (eq-eqb (get_or nodes j 0) n e) ∙ here.3 j (omega arith) h))
 
-      pub index_chained : Okay nodes ss₀ used hold → Chained i used hold (state_of ss i)
+      index_chained : Okay nodes ss₀ used hold → Chained i used hold (state_of ss i)
       index_chained ok = subst (Chained i used hold) (sym state_is) (ok.chained i index_ok)
 
-      pub index_room : (size : ℕ) → used ≤ length hold → used ≤ size → out + length (filter (goes_out acc i) (held_in acc ss used hold)) ≤ size
+      index_room : (size : ℕ) → used ≤ length hold → used ≤ size → out + length (filter (goes_out acc i) (held_in acc ss used hold)) ≤ size
       index_room size f h =
           let a = ap length as_first in
           let b = ap length freed_next in
@@ -201,7 +194,7 @@ module _ (acc : Link → Bool) (nodes : List ℕ) (n : ℕ) (ss₀ : List Single
           let g = t.counts in
           omega arith
 
-      pub telling_more : (ss' : List SingleBufferState) (hand' : List Ref) (out' : ℕ) → Moved i ss ss' → handed out' hand' ≡ handed out hand ++ filter (goes_out acc i) (held_in acc ss used hold) → out' ≡ out + length (filter (goes_out acc i) (held_in acc ss used hold)) → Telling acc nodes n ss₀ (held_in acc ss₀ used hold) ss' hand' rest out'
+      telling_more : (ss' : List SingleBufferState) (hand' : List Ref) (out' : ℕ) → Moved i ss ss' → handed out' hand' ≡ handed out hand ++ filter (goes_out acc i) (held_in acc ss used hold) → out' ≡ out + length (filter (goes_out acc i) (held_in acc ss used hold)) → Telling acc nodes n ss₀ (held_in acc ss₀ used hold) ss' hand' rest out'
       telling_more ss' hand' out' mv go co = record {
         k = i + 1;
         below = let l = index_ok in omega arith;
@@ -226,6 +219,17 @@ module _ (acc : Link → Bool) (nodes : List ℕ) (n : ℕ) (ss₀ : List Single
           misses j h (yes y) = absurd (h (omega arith) (ap (λ v. get_or nodes v 0) y ∙ node_is))
           misses j h (no z) = mv.others j z ∙ t.miss j (λ a e. h (let b = here.0 in omega arith) e)
 
+      -- an index is next: it is registered and has its chain, there is room for what it lets out, and once that is out and it is
+      -- released, the telling goes on
+      pub record Indexed (size : ℕ) : Type 0 where
+        pub low : i < length nodes
+        pub chained : Chained i used hold (state_of ss i)
+        pub room : out + length (filter (goes_out acc i) (held_in acc ss used hold)) ≤ size
+        pub more : (ss' : List SingleBufferState) (hand' : List Ref) (out' : ℕ) → Moved i ss ss' → handed out' hand' ≡ handed out hand ++ filter (goes_out acc i) (held_in acc ss used hold) → out' ≡ out + length (filter (goes_out acc i) (held_in acc ss used hold)) → Telling acc nodes n ss₀ (held_in acc ss₀ used hold) ss' hand' rest out'
+
+      pub indexed : Okay nodes ss₀ used hold → (size : ℕ) → used ≤ size → Indexed size
+      indexed ok size h = record { low = index_ok; chained = index_chained ok; room = index_room size ok.fits h; more = telling_more }
+
     module _ (z : indexes ≡ []) (ok : Okay nodes ss₀ used hold) where
       void : Void (of_node nodes n) t.k (length nodes)
       void =
@@ -241,7 +245,7 @@ module _ (acc : Link → Bool) (nodes : List ℕ) (n : ℕ) (ss₀ : List Single
         where
           inside_all : Dec (j < t.k) → j < t.k
           inside_all (yes y) = y
-          inside_all (no w) = absurd (true≢false (sym (is_true (of_node nodes n j) (subst (λ v. T (eqb (get_or nodes j 0) v)) e (eqb_refl (get_or nodes j 0)))) ∙ void j (omega arith) h))
+          inside_all (no w) = absurd (true≢false (sym (eq-eqb (get_or nodes j 0) n e) ∙ void j (omega arith) h))
 
       agree : Agree nodes ss
       agree a b la lb e = go (ℕ_discrete (get_or nodes a 0) n)
@@ -250,7 +254,7 @@ module _ (acc : Link → Bool) (nodes : List ℕ) (n : ℕ) (ss₀ : List Single
           go (yes y) = hit a la y ∙ sym (hit b lb (sym e ∙ y))
           go (no w) = ap is_out (t.miss a (λ h q. w q)) ∙ ok.agree a b la lb e ∙ sym (ap is_out (t.miss b (λ h q. w (e ∙ q))))
 
-      pub told_okay : Okay nodes ss used hold
+      told_okay : Okay nodes ss used hold
       told_okay = record {
         long = t.long ∙ ok.long;
         fits = ok.fits;
@@ -266,34 +270,26 @@ module _ (acc : Link → Bool) (nodes : List ℕ) (n : ℕ) (ss₀ : List Single
       tells : (w j : ℕ) → j < length nodes → get_or nodes j 0 ≡ w → told_by nodes ss w ≡ (told_by nodes ss₀ w || eqb w n)
       tells w j l e = subst (λ v. told_by nodes ss v ≡ (told_by nodes ss₀ v || eqb v n)) e (go (ℕ_discrete (get_or nodes j 0) n))
         where
-          or-true : (a : Bool) → (a || true) ≡ true
-          or-true true = refl
-          or-true false = refl
-
-          or-false : (a : Bool) → (a || false) ≡ a
-          or-false true = refl
-          or-false false = refl
-
           go : Dec (get_or nodes j 0 ≡ n) → told_by nodes ss (get_or nodes j 0) ≡ (told_by nodes ss₀ (get_or nodes j 0) || eqb (get_or nodes j 0) n)
           go (yes y) =
-              let q : eqb (get_or nodes j 0) n ≡ true = subst (λ v. eqb (get_or nodes j 0) v ≡ true) y (is_true _ (eqb_refl (get_or nodes j 0))) in
+              let q = eq-eqb (get_or nodes j 0) n y in
               told_at nodes ss j l agree ∙ hit j l y ∙ sym (ap (λ v. told_by nodes ss₀ (get_or nodes j 0) || v) q ∙ or-true _)
           go (no w') =
-              let q : eqb (get_or nodes j 0) n ≡ false = not-true _ (λ x. w' (eqb→eq (get_or nodes j 0) n x)) in
+              let q = ne_eqb (get_or nodes j 0) n w' in
               told_at nodes ss j l agree ∙ ap is_out (t.miss j (λ h y. w' y)) ∙ sym (told_at nodes ss₀ j l ok.agree) ∙ sym (ap (λ v. told_by nodes ss₀ (get_or nodes j 0) || v) q ∙ or-false _)
 
       place_of : (w : ℕ) (l : Option EdgeLinks) → waiting acc nodes l ≡ Some w → (j : ℕ) × (j < length nodes) × (get_or nodes j 0 ≡ w)
-      place_of w None e = absurd (subst (λ k. T (is_node w k)) (sym e) (eqb_refl w))
-      place_of w (Some (NonWeak m)) e = absurd (subst (λ k. T (is_node w k)) (sym e) (eqb_refl w))
+      place_of w None e = absurd cc
+      place_of w (Some (NonWeak m)) e = absurd cc
       place_of w (Some (Weak q o x)) e = go (acc o) (dec_lt x.0 (length nodes)) e
         where
           i : ℕ
           i = x.0
 
           go : (a : Bool) → Dec (i < length nodes) → cond a (slice_get nodes i) None ≡ Some w → (j : ℕ) × (j < length nodes) × (get_or nodes j 0 ≡ w)
-          go false d v = absurd (subst (λ k. T (is_node w k)) (sym v) (eqb_refl w))
-          go true (no y) v = absurd (subst (λ k. T (is_node w k)) (sym v ∙ slice_get_past nodes i (omega arith)) (eqb_refl w))
-          go true (yes y) v = (i, y, eqb→eq (get_or nodes i 0) w (subst (λ k. T (is_node w k)) (sym v ∙ slice_get-get_or nodes i 0 y) (eqb_refl w)))
+          go false d v = absurd cc
+          go true (no y) v = absurd (let p = slice_get_past nodes i (omega arith) in cc)
+          go true (yes y) v = (i, y, let p = slice_get-get_or nodes i 0 y in cc)
 
       -- an edge is held after, exactly if it was held and does not wait on n
       one : (l : Option EdgeLinks) → (wanted acc l && waits_in ss l) ≡ ((wanted acc l && waits_in ss₀ l) && not (is_node n (waiting acc nodes l)))
@@ -304,20 +300,12 @@ module _ (acc : Link → Bool) (nodes : List ℕ) (n : ℕ) (ss₀ : List Single
           i : ℕ
           i = x.0
 
-          and-true : (b : Bool) → (b && true) ≡ b
-          and-true true = refl
-          and-true false = refl
-
-          and-false : (b : Bool) → (b && false) ≡ false
-          and-false true = refl
-          and-false false = refl
-
           known : i < length nodes → Dec (get_or nodes i 0 ≡ n) → not (is_out (state_of ss i)) ≡ (not (is_out (state_of ss₀ i)) && not (eqb (get_or nodes i 0) n))
           known l (yes y) =
-              let b : eqb (get_or nodes i 0) n ≡ true = subst (λ v. eqb (get_or nodes i 0) v ≡ true) y (is_true _ (eqb_refl (get_or nodes i 0))) in
+              let b = eq-eqb (get_or nodes i 0) n y in
               ap not (hit i l y) ∙ sym (ap (λ v. not (is_out (state_of ss₀ i)) && not v) b ∙ and-false _)
           known l (no w) =
-              let b : eqb (get_or nodes i 0) n ≡ false = not-true _ (λ x. w (eqb→eq (get_or nodes i 0) n x)) in
+              let b = ne_eqb (get_or nodes i 0) n w in
               ap (λ v. not (is_out v)) (t.miss i (λ h y. w y)) ∙ sym (ap (λ v. not (is_out (state_of ss₀ i)) && not v) b ∙ and-true _)
 
           go : (a : Bool) → Dec (i < length nodes) → (a && not (is_out (state_of ss i))) ≡ ((a && not (is_out (state_of ss₀ i))) && not (is_node n (cond a (slice_get nodes i) None)))
@@ -336,7 +324,7 @@ module _ (acc : Link → Bool) (nodes : List ℕ) (n : ℕ) (ss₀ : List Single
       rest : held_in acc ss used hold ≡ filter (stays_at (feature_rule acc nodes Forward) n) (held_in acc ss₀ used hold)
       rest = (λ j. filter (λ x. one (links x) j) (lying used hold)) ∙ sym (kept_both (held_one acc ss₀) (stays_at (feature_rule acc nodes Forward) n) (lying used hold))
 
-      pub told_all : Discovers (feature_rule acc nodes Forward) n (told_by nodes ss₀) (told_by nodes ss) (held_in acc ss₀ used hold) (held_in acc ss used hold) (handed out hand)
+      told_all : Discovers (feature_rule acc nodes Forward) n (told_by nodes ss₀) (told_by nodes ss) (held_in acc ss₀ used hold) (held_in acc ss used hold) (handed out hand)
       told_all = record {
         tells = λ e w q. let p = place_of w (links e) q in tells w p.0 p.1 p.2;
         order = t.goes ∙ sym all;
@@ -344,14 +332,23 @@ module _ (acc : Link → Bool) (nodes : List ℕ) (n : ℕ) (ss₀ : List Single
         fair = feature_fair acc nodes Forward;
       }
 
-      pub told_fits : (size : ℕ) → used ≤ size → out ≤ size
+      told_fits : (size : ℕ) → used ≤ size → out ≤ size
       told_fits size h = let a = t.counts in let b = few_to acc nodes n (held_in acc ss₀ used hold) t.k t.below in let c = held_few acc ss₀ used hold ok.fits in omega arith
+
+      -- no index is left: the node is told
+      pub record Told : Type 0 where
+        pub okay : Okay nodes ss used hold
+        pub all : Discovers (feature_rule acc nodes Forward) n (told_by nodes ss₀) (told_by nodes ss) (held_in acc ss₀ used hold) (held_in acc ss used hold) (handed out hand)
+        pub fits : (size : ℕ) → used ≤ size → out ≤ size
+
+      pub told : Told
+      told = record { okay = told_okay; all = told_all; fits = told_fits }
 
 module _ (acc : Link → Bool) (nodes : List ℕ) (d : DependencyDirection) (n : ℕ) (told : ℕ → Bool) (held : List (Edge FeatureEdge)) where
   -- in Reverse nothing waits
   pub back_none : d ≡ Reverse → Discovers (feature_rule acc nodes d) n told told held held []
   back_none q = subst (λ v. Discovers (feature_rule acc nodes v) n told told held held []) (sym q) (record {
-    tells = λ e w i. absurd (subst (λ k. T (is_node w k)) (sym i) (eqb_refl w));
+    tells = λ e w i. absurd cc;
     order = refl;
     rest = sym (kept_true held);
     fair = feature_fair acc nodes Reverse;

@@ -25,6 +25,7 @@ impl<'a> Releases<'a> {
     {
         let mut firsts = [None; 4096];
         let mut nexts = [None; 1024];
+        // Counted by hand, from the last index back: the index is what both tables store, and the place of a write in one.
         for index in (0..nodes.len()).rev() {
             let bucket = (nodes[index] % NODE_LIMIT) as usize;
             nexts[index] = firsts[bucket];
@@ -39,9 +40,7 @@ impl<'a> Releases<'a> {
 
     // The indexes that a node releases, ascending.
     pub(crate) fn of<'r>(&'r self, node: u32) -> ReleasedBy<'r, 'a>
-        ensures releases { result.releases.now ≡ self.now }
-        ensures node { result.node ≡ node }
-        ensures list { left self.now.nodes.now node result.link ≡ released self.now.nodes.now node 0 (length self.now.nodes.now) }
+        ensures { left result.releases.now.nodes.now result.node result.link ≡ released self.now.nodes.now node 0 (length self.now.nodes.now) }
     {
         ReleasedBy {
             releases: self,
@@ -63,7 +62,7 @@ pub struct ReleasedBy<'r, 'a> {
 impl<'r, 'a> Iterator for ReleasedBy<'r, 'a> {
     type Item = usize;
 
-    ghost next_gives = { λ s r t. (t.releases.now ≡ s.releases.now) × ((t.node ≡ s.node) × YieldsFirst (λ s. left s.releases.now.nodes.now s.node s.link) s r t) };
+    ghost next_gives = { YieldsFirst (λ s. left s.releases.now.nodes.now s.node s.link) };
 
     ghost remaining = { item_count (λ s. left s.releases.now.nodes.now s.node s.link) };
 

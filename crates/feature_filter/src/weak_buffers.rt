@@ -89,7 +89,8 @@ impl WeakBuffers {
         ensures answer { result ≡ was_told (told_by releases.now.nodes.now self.old.states) (slice_get releases.now.nodes.now index) }
         ensures held { (accepts : AnyLink → Bool) → held_in accepts self.new.states self.new.used hold.new ≡ held_for (told_by releases.now.nodes.now self.old.states) (held_in accepts self.old.states self.old.used hold.old) (meaning edge) (waiting accepts releases.now.nodes.now (links (meaning edge))) }
     {
-        if index >= releases.nodes.len() {
+        let registered = releases.nodes.len();
+        if index >= registered {
             return false; // there is no node to wait on
         }
         matches!(

@@ -22,7 +22,8 @@ pub struct Held<E> {
 // out. The moving part is the set of the waited-on nodes told since `begin` and the list of the edges held since, in the
 // order in which they came. Held edges lie in a table that the caller lends, the same to all calls since `begin`.
 // Walks alone make these calls, and ask about each edge at most once after `begin`: so a hold table and a hand-out table
-// with an entry for each edge of the graph have room enough.
+// with an entry for each edge of the graph have room enough. Both are slices that the caller lends to each call, since no
+// call may want for memory.
 pub trait BufferedEdgeFilter {
     type Ix: IndexType;
 

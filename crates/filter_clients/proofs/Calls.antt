@@ -1,20 +1,18 @@
 -- What the contracts of a feature filter come to, along the calls of the four-node walk. Assumes nothing.
-use Rattle.std.proofs.Common.{◌≡◌, ℕ, zero, suc, ◌≤◌, Bool, true, false, cond, ◌||◌, eqb, List, [], ◌∷◌, ◌++◌, length, get_or, take, Some, None, filter, sym, refl, ap, ◌∙◌, arith}
+use Rattle.std.proofs.Common.{◌≡◌, ℕ, zero, suc, ◌≤◌, Bool, true, false, cond, ◌||◌, eqb, List, [], ◌∷◌, ◌++◌, length, get_or, take, Some, filter, sym, refl, ap, ◌∙◌, arith}
 use Rattle.std.proofs.lemmas.List.{length-map, length-take-le}
 use Rattle.theory.specs.Edges.{Edge}
 use Rattle.theory.specs.Rules.{Rule, hands, holds, held_for, stays_at}
 use Rattle.index.specs.declared.direction.DependencyDirection.TheVariants.{Forward}
 use Rattle.index.specs.declared.links.Link.{Link}
 use Rattle.index.specs.declared.records.FeatureEdge.{FeatureEdge}
-use Rattle.index.specs.declared.records.FeatureEdge.TheVariants.{NamedFeature, DependenciesSection, WeakSlash}
+use Rattle.index.specs.declared.records.FeatureEdge.TheVariants.{NamedFeature, DependenciesSection}
 use Rattle.bits.specs.Bits.{bit}
 use Rattle.verdict.specs.Verdicts.{shares}
 use Rattle.filter.specs.Filters.{Untold, Discovers}
 use Rattle.buffers.specs.Rules.{feature_rule, goes_out}
 use Rattle.buffers.specs.Buffers.{Ref, meaning, handed}
-
-abbrev pub slash : FeatureEdge
-slash = WeakSlash None 1 (record { 0 = 0 })
+use Rattle.clients.specs.FourNodes.{slash}
 
 -- mask 1 in Forward, where node 2 releases index 0
 abbrev pub rule : Rule (Edge FeatureEdge)

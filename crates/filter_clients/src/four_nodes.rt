@@ -4,19 +4,19 @@ ghost use Rattle.std.specs.Prelude.{◌≡◌, true, false, [], ◌∷◌, map};
 ghost use Rattle.theory.specs.Pairs.{Pair};
 ghost use Rattle.weak.specs.Registered.{pairs as pairs_of};
 
-use draft::draft::Draft;
+use crate::edges::{edge, slash};
+use clients::four_nodes::lay_four_nodes;
 use feature_filter::table::FeatureEdgeFilter;
 use filter::buffered::{BufferedEdgeFilter, Held};
-use graph::edge::EdgeRef;
 use index::direction::DependencyDirection;
-use index::records::{FeatureEdge, WeakIndex};
-use index::spec::{FeatureGraphSpec, FeatureIx, IndexType};
+use index::records::FeatureEdge;
+use index::spec::{FeatureIx, IndexType};
 use verdict::verdicts::MaskVerdict;
 use weak::table::WeakDependencies;
 
 // Whether each edge was handed out as it was asked about, how many were as a node was told, and the number of the first of
 // those that 2 released.
-#[derive(Clone, Copy)]
+#[derive(Clone, Copy, PartialEq, Eq, Debug)]
 pub struct Answers {
     pub section: bool,
     pub name: bool,
@@ -27,46 +27,11 @@ pub struct Answers {
     pub released: u32,
 }
 
-fn edge(
-    source: u32,
-    target: u32,
-    number: u32,
-    weight: FeatureEdge,
-) -> EdgeRef<FeatureIx, FeatureEdge>
-    ensures { (result.number ≡ number) × (result.weight ≡ weight) }
-{
-    EdgeRef {
-        source: FeatureIx::new(source),
-        target: FeatureIx::new(target),
-        number,
-        weight,
-    }
-}
-
 // The calls, on a filter with mask 1 that is made from the graph.
 pub fn four_nodes(table: &mut [u32; 32]) -> Answers
     ensures { result ≡ record { section = true; name = true; slash = false; told_0 = 0; told_1 = 0; told_2 = 1; released = 1 } }
 {
-    let slash = FeatureEdge::WeakSlash {
-        required: None,
-        optional: 1,
-        index: WeakIndex(0),
-    };
-    let mut draft = Draft::new(table, FeatureGraphSpec);
-    let _ = draft.set_up(4);
-    let _ = draft.add_pair(7, FeatureIx::new(2));
-    let _ = draft.add_edge(
-        FeatureIx::new(0),
-        FeatureIx::new(1),
-        FeatureEdge::NamedFeature,
-    );
-    let _ = draft.add_edge(FeatureIx::new(1), FeatureIx::new(3), slash);
-    let _ = draft.add_edge(
-        FeatureIx::new(0),
-        FeatureIx::new(2),
-        FeatureEdge::DependenciesSection(1),
-    );
-    let graph = draft.finish();
+    let graph = lay_four_nodes(table);
     walk(graph.weak())
 }
 
@@ -74,17 +39,12 @@ fn walk(weak: &WeakDependencies) -> Answers
     requires { map (λ (p : Pair). p.release) (pairs_of weak.now) ≡ 2 ∷ [] }
     ensures { result ≡ record { section = true; name = true; slash = false; told_0 = 0; told_1 = 0; told_2 = 1; released = 1 } }
 {
-    let slash = FeatureEdge::WeakSlash {
-        required: None,
-        optional: 1,
-        index: WeakIndex(0),
-    };
     let first = edge(0, 1, 0, FeatureEdge::NamedFeature);
-    let second = edge(1, 3, 1, slash);
+    let second = edge(1, 3, 1, slash(None, 1, 0));
     let third = edge(0, 2, 2, FeatureEdge::DependenciesSection(1));
     let mut hold = [Held {
         edge: first,
-        next: 0,
+        next: None,
     }; 3];
     let mut hand = [first; 3];
     let verdict = MaskVerdict { wanted: 1 };

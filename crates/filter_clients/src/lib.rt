@@ -2,6 +2,7 @@
 // the contracts alone, and a test that makes them over the graph itself.
 #![tactic(auto)]
 
+pub(crate) mod edges;
 pub mod four_nodes;
 #[cfg(test)]
 mod tests;

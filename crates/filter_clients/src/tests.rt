@@ -1,12 +1,14 @@
 // The calls of walks that the original was run on, with the answers that it gave there.
+use crate::edges::{edge, slash};
 use draft::draft::Draft;
 use feature_filter::table::FeatureEdgeFilter;
 use filter::buffered::{BufferedEdgeFilter, Held};
 use graph::edge::EdgeRef;
 use index::direction::DependencyDirection;
-use index::records::{FeatureEdge, WeakIndex};
+use index::records::FeatureEdge;
 use index::spec::{FeatureGraphSpec, FeatureIx, IndexType};
 use verdict::verdicts::MaskVerdict;
+use weak::table::WeakDependencies;
 
 // A node is told, or it is asked about an edge, by its number.
 #[derive(Clone, Copy, PartialEq, Eq, Debug)]
@@ -18,72 +20,58 @@ enum Call {
 // How many edges a call handed out, and the numbers of the first three.
 type Answer = (usize, [u32; 3]);
 
-fn numbers(hand: &[EdgeRef<FeatureIx, FeatureEdge>], count: usize) -> [u32; 3] {
+const NONE: Answer = (0, [0; 3]);
+
+fn numbers(handed: &[EdgeRef<FeatureIx, FeatureEdge>]) -> [u32; 3] {
     let mut first = [0; 3];
-    for i in 0..3 {
-        if i < count && i < hand.len() {
-            first[i] = hand[i].number;
-        }
+    for (number, edge) in first.iter_mut().zip(handed) {
+        *number = edge.number;
     }
     first
 }
 
-// Begins the filter, makes the calls, and writes down what each was answered, as long as the tables have room.
-fn replay<F: BufferedEdgeFilter<Ix = FeatureIx, Weight = FeatureEdge>>(
+// Begins the filter, makes the calls with tables of so many entries, and writes down what each was answered, as long as the
+// tables have room.
+fn replay<F: BufferedEdgeFilter<Ix = FeatureIx, Weight = FeatureEdge>, const CALLS: usize>(
     filter: &mut F,
     edges: &[EdgeRef<FeatureIx, FeatureEdge>],
-    calls: &[Call],
-    hold: &mut [Held<EdgeRef<FeatureIx, FeatureEdge>>],
-    hand: &mut [EdgeRef<FeatureIx, FeatureEdge>],
-    answers: &mut [Answer],
-) {
+    calls: &[Call; CALLS],
+    entries: usize,
+) -> [Answer; CALLS] {
+    let blank = edge(0, 0, 0, FeatureEdge::NamedFeature);
+    let mut hold = [Held {
+        edge: blank,
+        next: None,
+    }; 6];
+    let mut hand = [blank; 6];
+    let entries = entries.min(6);
+    let hold = &mut hold[..entries];
+    let hand = &mut hand[..entries];
+    let mut answers = [NONE; CALLS];
     filter.begin();
     let mut asked = 0;
-    for i in 0..calls.len() {
-        if i >= answers.len() || asked >= hold.len() || asked > hand.len() {
-            return;
+    for (call, answer) in calls.iter().zip(answers.iter_mut()) {
+        if asked >= entries {
+            break;
         }
-        match calls[i] {
+        match *call {
             Call::Tell(node) => {
                 let count = filter.discover(FeatureIx::new(node), hold, hand);
-                answers[i] = (count, numbers(hand, count));
+                *answer = (count, numbers(&hand[..count]));
             }
             Call::Ask(number) => {
-                if number as usize >= edges.len() {
-                    return;
-                }
+                let Some(edge) = edges.get(number as usize) else {
+                    break;
+                };
                 asked += 1;
-                if filter.filter(&edges[number as usize], hold) {
-                    answers[i] = (1, [number, 0, 0]);
+                if filter.filter(edge, hold) {
+                    *answer = (1, [number, 0, 0]);
                 }
             }
         }
     }
+    answers
 }
-
-fn edge(
-    source: u32,
-    target: u32,
-    number: u32,
-    weight: FeatureEdge,
-) -> EdgeRef<FeatureIx, FeatureEdge> {
-    EdgeRef {
-        source: FeatureIx::new(source),
-        target: FeatureIx::new(target),
-        number,
-        weight,
-    }
-}
-
-fn slash(required: Option<u8>, optional: u8, index: u32) -> FeatureEdge {
-    FeatureEdge::WeakSlash {
-        required,
-        optional,
-        index: WeakIndex(index),
-    }
-}
-
-const NONE: Answer = (0, [0; 3]);
 
 // d0 e2(2) e0(0) d1 e1 d2(1) d3 in the original's trace: nodes told, edges asked about, and in brackets what is handed out.
 #[test]
@@ -107,29 +95,20 @@ fn the_four_node_walk_goes_as_in_the_original(rt: HostRuntime) {
         Call::Tell(2),
         Call::Tell(3),
     ];
-    let mut hold = [Held {
-        edge: edges[0],
-        next: 0,
-    }; 4];
-    let mut hand = [edges[0]; 4];
-    let mut answers = [NONE; 7];
     let verdict = MaskVerdict { wanted: 1 };
     let mut filter = FeatureEdgeFilter::new(graph.weak(), DependencyDirection::Forward, verdict);
-    replay(
-        &mut filter,
-        &edges,
-        &calls,
-        &mut hold,
-        &mut hand,
-        &mut answers,
+    assert_eq!(rt;
+        replay(&mut filter, &edges, &calls, 4),
+        [
+            NONE,
+            (1, [2, 0, 0]),
+            (1, [0; 3]),
+            NONE,
+            NONE,
+            (1, [1, 0, 0]),
+            NONE
+        ]
     );
-    assert_eq!(rt; answers[0], NONE);
-    assert_eq!(rt; answers[1], (1, [2, 0, 0]));
-    assert_eq!(rt; answers[2], (1, [0; 3]));
-    assert_eq!(rt; answers[3], NONE);
-    assert_eq!(rt; answers[4], NONE);
-    assert_eq!(rt; answers[5], (1, [1, 0, 0]));
-    assert_eq!(rt; answers[6], NONE);
 }
 
 // d0 e4(4) e3 e2 e1 e0(0) d1 d5(2,0,1): two indexes wait on node 5. What waits for index 0 comes before what waits for 1, in
@@ -159,75 +138,43 @@ fn held_edges_go_out_index_by_index_in_each_walk(rt: HostRuntime) {
         Call::Ask(0),
         Call::Tell(5),
     ];
-    let mut hold = [Held {
-        edge: edges[0],
-        next: 0,
-    }; 6];
-    let mut hand = [edges[0]; 6];
-    let mut first = [NONE; 7];
-    let mut second = [NONE; 7];
     let verdict = MaskVerdict { wanted: 1 };
     let mut filter = FeatureEdgeFilter::new(graph.weak(), DependencyDirection::Forward, verdict);
-    replay(
-        &mut filter,
-        &edges,
-        &calls,
-        &mut hold,
-        &mut hand,
-        &mut first,
+    let first = replay(&mut filter, &edges, &calls, 6);
+    let second = replay(&mut filter, &edges, &calls, 6);
+    assert_eq!(rt;
+        first,
+        [
+            NONE,
+            (1, [4, 0, 0]),
+            NONE,
+            NONE,
+            NONE,
+            (1, [0; 3]),
+            (3, [2, 0, 1])
+        ]
     );
-    replay(
-        &mut filter,
-        &edges,
-        &calls,
-        &mut hold,
-        &mut hand,
-        &mut second,
-    );
-    assert_eq!(rt; first[1], (1, [4, 0, 0]));
-    assert_eq!(rt; first[2], NONE);
-    assert_eq!(rt; first[3], NONE);
-    assert_eq!(rt; first[4], NONE);
-    assert_eq!(rt; first[5], (1, [0; 3]));
-    assert_eq!(rt; first[6], (3, [2, 0, 1]));
-    assert!(rt; first == second);
+    assert_eq!(rt; second, first);
 }
 
 // Made for Reverse, an optional link is judged at once. An index that no pair has waits on nothing, in Forward.
 #[test]
 fn reverse_judges_at_once_and_an_unknown_index_waits_on_nothing(rt: HostRuntime) {
-    let weak = weak::table::WeakDependencies::new();
+    let weak = WeakDependencies::new();
     let edges = [
         edge(0, 1, 0, slash(Some(2), 1, 0)),
         edge(0, 1, 1, slash(Some(1), 2, 0)),
     ];
     let calls = [Call::Ask(0), Call::Ask(1), Call::Tell(0)];
-    let mut hold = [Held {
-        edge: edges[0],
-        next: 0,
-    }; 3];
-    let mut hand = [edges[0]; 3];
-    let mut back = [NONE; 3];
-    let mut ahead = [NONE; 3];
     let verdict = MaskVerdict { wanted: 1 };
     let mut reverse = FeatureEdgeFilter::new(&weak, DependencyDirection::Reverse, verdict);
     let mut forward = FeatureEdgeFilter::new(&weak, DependencyDirection::Forward, verdict);
-    replay(
-        &mut reverse,
-        &edges,
-        &calls,
-        &mut hold,
-        &mut hand,
-        &mut back,
+    assert_eq!(rt;
+        replay(&mut reverse, &edges, &calls, 3),
+        [(1, [0; 3]), (1, [1, 0, 0]), NONE]
     );
-    replay(
-        &mut forward,
-        &edges,
-        &calls,
-        &mut hold,
-        &mut hand,
-        &mut ahead,
+    assert_eq!(rt;
+        replay(&mut forward, &edges, &calls, 3),
+        [NONE, (1, [1, 0, 0]), NONE]
     );
-    assert!(rt; back == [(1, [0; 3]), (1, [1, 0, 0]), NONE]);
-    assert!(rt; ahead == [NONE, (1, [1, 0, 0]), NONE]);
 }

@@ -6,6 +6,7 @@ ghost use Rattle.theory.specs.Walk.{mark};
 
 use filter::buffered::{BufferedEdgeFilter, Held};
 use graph::edge::EdgeRef;
+use graph::edges::Edges;
 use graph::graph::Graph;
 use index::spec::IndexType;
 
@@ -24,12 +25,10 @@ pub fn handed_at_first<G: Graph, F: BufferedEdgeFilter<Ix = G::Ix, Weight = G::W
     if hold.len() < graph.edge_bound() as usize {
         return None;
     }
-    graph.sound();
     filter.begin();
     let _ = filter.discover(node, hold, hand);
-    let mut list = graph.outgoing(node);
     let mut count = 0;
-    while let Some(edge) = graph.next(&mut list) {
+    for edge in Edges::outgoing(graph, node) {
         if filter.filter(&edge, hold) {
             count += 1;
         }

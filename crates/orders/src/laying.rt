@@ -1,7 +1,7 @@
 // The edges of an order file, added to a draft.
 ghost use Rattle.std.specs.Prelude.{◌≡◌, None};
 ghost use Rattle.index.specs.Records.{read_package_link};
-ghost use Rattle.draft.specs.Drafting.{state_of, TakesEdge};
+ghost use Rattle.draft.specs.Drafting.{TakesEdge};
 ghost use Rattle.orders.specs.Laying.{Lays, Weighs};
 
 use draft::draft::Draft;
@@ -12,7 +12,7 @@ use records::Form;
 
 // The record of an edge. A weak form registers its pair, whose index the record has.
 fn weigh(draft: &mut Draft<'_, FeatureGraphSpec>, form: Form) -> Result<FeatureEdge, Refusal>
-    ensures { Weighs form (state_of draft.old.raw draft.old.weak) result (state_of draft.new.raw draft.new.weak) }
+    ensures { Weighs form draft.old result draft.new }
 {
     Ok(match form {
         Form::Named => FeatureEdge::NamedFeature,
@@ -49,7 +49,7 @@ pub fn lay_feature_edge(
     target: u32,
     form: Form,
 ) -> Result<u32, Refusal>
-    ensures { Lays form (state_of draft.old.raw draft.old.weak) source target result (state_of draft.new.raw draft.new.weak) }
+    ensures { Lays form draft.old source target result draft.new }
 {
     let weight = weigh(draft, form)?;
     draft.add_edge(FeatureIx::new(source), FeatureIx::new(target), weight)
@@ -62,7 +62,7 @@ pub fn lay_package_edge(
     target: u32,
     mask: u8,
 ) -> Result<u32, Refusal>
-    ensures { TakesEdge read_package_link None (state_of draft.old.raw draft.old.weak) source target (record { mask = mask }) result (state_of draft.new.raw draft.new.weak) }
+    ensures { TakesEdge read_package_link None draft.old source target (record { mask = mask }) result draft.new }
 {
     draft.add_edge(
         PackageIx::new(source),

@@ -11,7 +11,7 @@ use std::alloc::AllocError;
 
 impl Page {
     // The edges that leave a node; none leave an index that is no node.
-    pub fn out<G: Graph>(&mut self, graph: &G, node: u32) -> Result<(), AllocError>
+    pub fn outgoing<G: Graph>(&mut self, graph: &G, node: u32) -> Result<(), AllocError>
         ensures { Writes result self.old (list_text (codes "out") node (G.outs graph.now node)) self.new }
     {
         let start = graph.outgoing(G::Ix::new(node));
@@ -19,7 +19,7 @@ impl Page {
     }
 
     // The edges that enter a node.
-    pub fn into<G: BothWays>(&mut self, graph: &G, node: u32) -> Result<(), AllocError>
+    pub fn incoming<G: BothWays>(&mut self, graph: &G, node: u32) -> Result<(), AllocError>
         ensures { Writes result self.old (list_text (codes "into") node (G.ins graph.now node)) self.new }
     {
         let start = graph.incoming(G::Ix::new(node));

@@ -89,10 +89,7 @@ impl<'a> Words<'a> {
     pub(crate) fn end(&self) -> Result<(), Complaint>
         ensures { result ≡ end_at self.now }
     {
-        match next_word(self.text, self.at) {
-            Some(word) => Err(Complaint::WordTooMany(word)),
-            None => Ok(()),
-        }
+        next_word(self.text, self.at).map_or(Ok(()), |word| Err(Complaint::WordTooMany(word)))
     }
 
     // The number that a word writes.

@@ -30,10 +30,9 @@ pub(crate) fn read_size(words: &Words<'_>, standing: Standing) -> Result<Record,
 pub(crate) fn unknown(word: Span, standing: Standing) -> Complaint
     ensures { result ≡ unknown_in standing word }
 {
-    match set_up(standing) {
-        Ok(()) => Complaint::UnknownCall(word),
-        Err(complaint) => complaint,
-    }
+    set_up(standing)
+        .err()
+        .unwrap_or(Complaint::UnknownCall(word))
 }
 
 // Complains unless a graph is set up.

@@ -10,7 +10,7 @@ use Rattle.filter_clients.proofs.four_nodes.walk.Goals as goal
 
 -- what a read of the hand-out table gives where it has no entry
 abbrev nothing : Ref
-nothing = record { source = record { 0 = 0 }; target = record { 0 = 0 }; number = 0; weight = NamedFeature }
+nothing = record { source = (0, record {}); target = (0, record {}); number = 0; weight = NamedFeature }
 
 pub discover-told_0-requires : goal.discover-told_0-requires
 discover-told_0-requires c = record { fit = c.begin.ensures.fit _; room = omega (arith, c.begin.ensures.unused) }
@@ -26,8 +26,8 @@ returns c =
     let L = c.filter-late.ensures in
     let D2 = c.discover-told_2.ensures in
     let second = meaning c.edge-second.result in
-    let w = c.edge-second.ensures.1 in
-    let made : feature_rule (λ (link : Link). shares c.new-filter.result.verdict.wanted link.mask) c.new-filter.result.nodes.now c.new-filter.result.direction ≡ rule =
+    let w = c.edge-second.ensures.1 ∙ c.slash.ensures in
+    let made : feature_rule (λ (link : Link). shares c.new-filter.result.verdict.wanted link.mask) c.new-filter.result.releases.nodes.now c.new-filter.result.direction ≡ rule =
     λ j. feature_rule (λ (link : Link). shares (F.verdict j).wanted link.mask) ((F.nodes ∙ c.requires) j) (F.direction j) in
     let r0 = B.same ∙ made in
     let u0 = first_untold _ _ second made w B.untold in

@@ -7,11 +7,16 @@ use Rattle.filter_clients.proofs.visit.handed_at_first.Given as goal
 abbrev pub invariant-loop-edge : goal.invariant-loop-edge
 invariant-loop-edge g l =
     let f = g.F.BufferedEdgeFilter in
-    let rest = g.G.Graph.rest l.graph l.list in
-    let all = g.G.Graph.rest l.graph l.initial.list in
+    let rest = g.G.Graph.rest l.graph l.edge-iterator.cursor in
+    let all = g.G.Graph.rest l.graph l.initial.edge-iterator.cursor in
     let out = hands (f.rule l.initial.filter) (f.told l.initial.filter) in
-    f.fit l.filter l.hold × (f.rule l.filter ≡ f.rule l.initial.filter) × (f.told l.filter ≡ f.told l.initial.filter)
-    × (f.used l.filter + length rest ≤ length all) × (l.count + length (filter out rest) ≡ length (filter out all))
-
-abbrev pub decreases-loop-edge : goal.decreases-loop-edge
-decreases-loop-edge g l = length (g.G.Graph.rest l.graph l.list)
+    record {
+      can_next : (goal.iterator-loop-edge g).can_next l.edge-iterator;
+      ends : (goal.iterator-loop-edge g).is_finite l.edge-iterator;
+      graph : l.edge-iterator.graph.now ≡ l.graph;
+      fit : f.fit l.filter l.hold;
+      rule : f.rule l.filter ≡ f.rule l.initial.filter;
+      told : f.told l.filter ≡ f.told l.initial.filter;
+      used : f.used l.filter + length rest ≤ length all;
+      count : l.count + length (filter out rest) ≡ length (filter out all);
+    }

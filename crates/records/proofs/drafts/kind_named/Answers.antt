@@ -1,15 +1,10 @@
 -- A word with the bytes of a name is that name.
-use Rattle.std.proofs.Common.{◌≡◌, codes, rules, arith, refl, sym, ◌∙◌}
-use Rattle.records.specs.Words.{bytes_of}
-use Rattle.std.proofs.lemmas.Slice.Eq.{text_from_reads}
+use Rattle.std.proofs.Common.{codes, rules, arith}
+use Rattle.records.proofs.Names.{name_from_reads}
 use Rattle.records.proofs.drafts.kind_named.Goals as goal
 
 pub returns-in-feature : goal.returns-in-feature
-returns-in-feature c =
-    let e : bytes_of c.args.words.now c.args.word ≡ codes "feature" = sym c.bytes.ensures ∙ text_from_reads _ (codes "feature") (omega arith) (search rules) in
-    rw e refl
+returns-in-feature c = rw (name_from_reads _ _ (codes "feature") c.bytes.ensures (omega arith) (search rules)) (search rules)
 
 pub returns-in-package : goal.returns-in-package
-returns-in-package c =
-    let e : bytes_of c.args.words.now c.args.word ≡ codes "package" = sym c.bytes.ensures ∙ text_from_reads _ (codes "package") (omega arith) (search rules) in
-    rw e refl
+returns-in-package c = rw (name_from_reads _ _ (codes "package") c.bytes.ensures (omega arith) (search rules)) (search rules)

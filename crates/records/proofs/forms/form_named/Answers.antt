@@ -1,20 +1,13 @@
 -- A word with the bytes of a name is that name.
-use Rattle.std.proofs.Common.{◌≡◌, codes, rules, arith, sym, ◌∙◌}
-use Rattle.records.specs.Words.{bytes_of}
-use Rattle.std.proofs.lemmas.Slice.Eq.{text_from_reads}
+use Rattle.std.proofs.Common.{codes, rules, arith}
+use Rattle.records.proofs.Names.{name_from_reads}
 use Rattle.records.proofs.forms.form_named.Goals as goal
 
 pub returns-in-section : goal.returns-in-section
-returns-in-section c =
-    let e : bytes_of c.args.words.now c.args.word ≡ codes "section" = sym c.bytes.ensures ∙ text_from_reads _ (codes "section") (omega arith) (search rules) in
-    rw e (search rules)
+returns-in-section c = rw (name_from_reads _ _ (codes "section") c.bytes.ensures (omega arith) (search rules)) (search rules)
 
 pub returns-in-strong : goal.returns-in-strong
-returns-in-strong c =
-    let e : bytes_of c.args.words.now c.args.word ≡ codes "strong" = sym c.bytes.ensures ∙ text_from_reads _ (codes "strong") (omega arith) (search rules) in
-    rw e (search rules)
+returns-in-strong c = rw (name_from_reads _ _ (codes "strong") c.bytes.ensures (omega arith) (search rules)) (search rules)
 
 pub returns-in-weakat : goal.returns-in-weakat
-returns-in-weakat c =
-    let e : bytes_of c.args.words.now c.args.word ≡ codes "weakat" = sym c.bytes.ensures ∙ text_from_reads _ (codes "weakat") (omega arith) (search rules) in
-    rw e (search rules)
+returns-in-weakat c = rw (name_from_reads _ _ (codes "weakat") c.bytes.ensures (omega arith) (search rules)) (search rules)

@@ -5,5 +5,5 @@ use Rattle.feature_filter.proofs.releases.Releases.of.Goals as goal
 pub invariant_of-result : goal.invariant_of-result
 invariant_of-result c = record { inside = (begun c.args.self.now.nodes.now c.args.node c.args.self.now.firsts c.args.self.now.starts).0 }
 
-pub returns-clause-list : goal.returns-clause-list
-returns-clause-list c = (begun c.args.self.now.nodes.now c.args.node c.args.self.now.firsts c.args.self.now.starts).1
+pub returns : goal.returns
+returns c = (begun c.args.self.now.nodes.now c.args.node c.args.self.now.firsts c.args.self.now.starts).1

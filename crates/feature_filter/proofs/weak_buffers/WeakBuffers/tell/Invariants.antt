@@ -7,14 +7,12 @@ use Rattle.feature_filter.proofs.weak_buffers.WeakBuffers.tell.Given as goal
 abbrev pub invariant-loop-index : goal.invariant-loop-index
 invariant-loop-index g l =
     let acc = g.V.Verdict.accepts l.initial.verdict in
-    let nodes = l.releases.nodes.now in
+    let it = l.index-iterator in
     record {
-      can_next : (goal.iterator-loop-index g).can_next l.index-iterator;
-      ends : (goal.iterator-loop-index g).is_finite l.index-iterator;
+      can_next : (goal.iterator-loop-index g).can_next it;
+      ends : (goal.iterator-loop-index g).is_finite it;
       same : g.V.Verdict.accepts l.verdict ≡ acc;
       used : l.self.used ≡ l.initial.self.used;
       hold : l.hold ≡ l.initial.hold;
-      releases : l.index-iterator.releases.now ≡ l.releases;
-      node : l.index-iterator.node ≡ l.node;
-      so_far : Telling acc nodes l.node l.initial.self.states (held_in acc l.initial.self.states l.initial.self.used l.initial.hold) l.self.states l.hand (left nodes l.node l.index-iterator.link) l.out;
+      so_far : Telling acc l.releases.nodes.now l.node l.initial.self.states (held_in acc l.initial.self.states l.initial.self.used l.initial.hold) l.self.states l.hand (left it.releases.now.nodes.now it.node it.link) l.out;
     }

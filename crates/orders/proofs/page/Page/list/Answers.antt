@@ -28,5 +28,4 @@ returns g c =
     let end = c.in-None.ensures.steps.1 in
     let edges = c.into_iter-edge-iterator in
     let begun : rest edges.result.graph.now edges.result.cursor ≡ left = search (rules, edges.ensures.into_iter_gives) in
-    let written = c.loop-edge.invariant ∙ ap (λ es. c.write.new.self ++ edges_text es) begun in
-    writes_list before _ _ _ _ _ head written (ap edges_text (step_none _ _ end))
+    writes_list before _ _ _ _ _ _ head c.loop-edge.invariant (ap edges_text (step_none _ _ end)) (ap edges_text begun)

@@ -1,7 +1,7 @@
 -- An incoming list is short: its edges have different numbers below the limit.
 use Rattle.std.proofs.Common.{length, ap, ◌∙◌, arith}
 use Rattle.theory.proofs.Kept.{at_most}
-use Rattle.orders.proofs.page.Page.into.Goals as goal
+use Rattle.orders.proofs.page.Page.incoming.Goals as goal
 
 pub list-requires : goal.list-requires
 list-requires g c =
