@@ -7,7 +7,7 @@ ghost use Rattle.index.specs.declared.links.Link.{Link as AnyLink};
 ghost use Rattle.index.specs.declared.links.EdgeLinks.TheVariants.{Weak as WeakLinks};
 ghost use Rattle.filter.specs.Filters.{Discovers};
 ghost use Rattle.buffers.specs.Rules.{links, waiting, wanted, goes_out, feature_rule};
-ghost use Rattle.buffers.specs.Buffers.{meaning, state_of, told_by, edge_of, held_in, handed, Blank, Next, Linked, Chained, Okay, Ready, extended, relinked, Met, Moved, at_place};
+ghost use Rattle.buffers.specs.Buffers.{meaning, state_of, told_by, edge_of, held_in, lets_out, handed, Blank, Next, Linked, Chained, Okay, Ready, extended, relinked, Met, Moved, at_place};
 
 use crate::releases::Releases;
 use buffers::states::{Chain, Event, Outcome, SingleBufferState};
@@ -111,12 +111,12 @@ impl WeakBuffers {
         requires known { index < 1024 }
         requires fits { self.old.used ≤ length hold.old }
         requires chained { Chained index self.old.used hold.old (state_of self.old.states index) }
-        requires room { length (filter (goes_out (V.Verdict.accepts verdict.old) index) (held_in (V.Verdict.accepts verdict.old) self.old.states self.old.used hold.old)) ≤ length hand.old }
+        requires room { length (lets_out (V.Verdict.accepts verdict.old) index self.old.states self.old.used hold.old) ≤ length hand.old }
         ensures same { V.Verdict.accepts verdict.new ≡ V.Verdict.accepts verdict.old }
         ensures rests { (self.new.used ≡ self.old.used) × (hold.new ≡ hold.old) }
         ensures moved { Moved index self.old.states self.new.states }
-        ensures goes { handed result hand.new ≡ filter (goes_out (V.Verdict.accepts verdict.old) index) (held_in (V.Verdict.accepts verdict.old) self.old.states self.old.used hold.old) }
-        ensures counts { result ≡ length (filter (goes_out (V.Verdict.accepts verdict.old) index) (held_in (V.Verdict.accepts verdict.old) self.old.states self.old.used hold.old)) }
+        ensures goes { handed result hand.new ≡ lets_out (V.Verdict.accepts verdict.old) index self.old.states self.old.used hold.old }
+        ensures counts { result ≡ length (lets_out (V.Verdict.accepts verdict.old) index self.old.states self.old.used hold.old) }
     {
         match self.meets(index, Event::Told, hold) {
             Outcome::Frees(first) => follow(verdict, &hold[..self.used], index, first, hand),
