@@ -1,5 +1,5 @@
 -- How many numbers below a count pass a test, and their list, ascending. Assumes nothing.
-use Rattle.std.proofs.Common.{◌≡◌, ℕ, zero, suc, ◌+◌, ◌/◌, ◌%◌, ◌^◌, ◌<◌, ◌≤◌, Bool, true, false, cond, not, ◌&&◌, ◌||◌, eqb, ◌⊎◌, [], ◌∷◌, ◌++◌, length, sym, refl, ap, ◌∙◌, ap₂, inl, inr, add-zero, add-suc, pow-suc, zero-add, one-add, arith, length-append}
+use Rattle.std.proofs.Common.{◌≡◌, ℕ, zero, suc, ◌+◌, ◌-◌, ◌/◌, ◌%◌, ◌^◌, ◌<◌, ◌≤◌, Bool, true, false, cond, not, ◌&&◌, ◌||◌, eqb, ◌⊎◌, [], ◌∷◌, ◌++◌, length, sym, refl, ap, ◌∙◌, ap₂, inl, inr, add-zero, add-suc, pow-suc, one-add, arith, length-append}
 use mathlib.Core.Bool.{and-true, or-false}
 use native.Mathlib.Nat.{pow-zero}
 use lib.Count.{ones, ones_step}
@@ -28,7 +28,7 @@ unfolding below
 count_zero p = refl
 
 pub count_suc : (p : ℕ → Bool) (n : ℕ) → how_many p (suc n) ≡ how_many p n + cond (p n) 1 0
-count_suc p n = ap length (listing_suc p n) ∙ length-append (listing p n) (cond (p n) (n ∷ []) []) ∙ ap (λ x. how_many p n + x) (one (p n) n)
+count_suc p n = omega (arith, ap length (listing_suc p n), length-append (listing p n) (cond (p n) (n ∷ []) []), one (p n) n)
 
 count_yes : (p : ℕ → Bool) (n : ℕ) → p n ≡ true → how_many p (suc n) ≡ how_many p n + 1
 count_yes p n t = count_suc p n ∙ ap (λ b. how_many p n + cond b 1 0) t
@@ -68,11 +68,20 @@ count_stop p m zero h = ap (how_many p) (add-zero m)
 count_stop p m (suc d) h =
     omega (arith, ap (how_many p) (add-suc m d), count_no p (m + d) (h (m + d) (omega arith)), count_stop p m d h)
 
+pub count_past : (p : ℕ → Bool) (n m : ℕ) → ((k : ℕ) → n ≤ k → p k ≡ false) → n ≤ m → how_many p m ≡ how_many p n
+count_past p n m stop l = let e : n + (m - n) ≡ m = omega arith in ap (how_many p) (sym e) ∙ count_stop p n (m - n) stop
+
+pub count_most : (p : ℕ → Bool) (n m : ℕ) → ((k : ℕ) → n ≤ k → p k ≡ false) → how_many p m ≤ n
+count_most p n m stop = elim (cases_lt m n) [
+  | inl l ↦ omega (arith, count_le p m)
+  | inr l ↦ omega (arith, count_past p n m stop l, count_le p n)
+]
+
 -- tests that agree, and pass nothing from two counts on
 pub count_same : (p q : ℕ → Bool) (m n : ℕ) → ((k : ℕ) → p k ≡ q k) → ((k : ℕ) → m ≤ k → p k ≡ false) → ((k : ℕ) → n ≤ k → q k ≡ false) → how_many p m ≡ how_many q n
 count_same p q m n same stop stop' =
     let e : m + n ≡ n + m = omega arith in
-    sym (count_stop p m n stop) ∙ count_ext p q (m + n) (λ k _. same k) ∙ ap (how_many q) e ∙ count_stop q n m stop'
+    omega (arith, count_stop p m n stop, count_ext p q (m + n) (λ k _. same k), ap (how_many q) e, count_stop q n m stop')
 
 -- ---- one number more in the set
 
@@ -105,8 +114,7 @@ digit_is (suc (suc x)) h = absurd (omega arith)
 
 digit_first : (w : ℕ) → how_many (bit w) 1 ≡ w % 2
 digit_first w =
-    count_suc (bit w) 0 ∙ ap (λ x. x + cond (bit w 0) 1 0) (count_zero (bit w)) ∙ zero-add (cond (bit w 0) 1 0)
-    ∙ ap (λ b. cond b 1 0) (bit_first w) ∙ digit_is (w % 2) (omega arith)
+    omega (arith, count_suc (bit w) 0, count_zero (bit w), ap {B = ℕ} (λ b. cond b 1 0) (bit_first w), digit_is (w % 2) (omega arith))
 
 pub ones_count : (k w : ℕ) → w < 2 ^ k → ones w ≡ how_many (bit w) k
 unfolding ones
@@ -115,8 +123,7 @@ ones_count (suc k) w h =
     let half : w / 2 < 2 ^ k = omega (arith, pow-suc 2 k) in
     let rest : how_many (bit (w / 2)) k ≡ how_many (λ j. bit w (1 + j)) k =
     count_ext (bit (w / 2)) (λ j. bit w (1 + j)) k (λ j b. sym (ap (bit w) (one-add j) ∙ bit_suc w j)) in
-    ones_step w ∙ ap₂ (λ x y. x + y) (sym (digit_first w)) (ones_count k (w / 2) half ∙ rest)
-    ∙ sym (ap (how_many (bit w)) (sym (one-add k)) ∙ count_add (bit w) 1 k)
+    omega (arith, ones_step w, digit_first w, ones_count k (w / 2) half, rest, ap (how_many (bit w)) (one-add k), count_add (bit w) 1 k)
 
 -- ---- the list, from its front
 
@@ -137,13 +144,13 @@ module _ (p q : ℕ → Bool) (m : ℕ) (least : (k : ℕ) → k < m → p k ≡
     where
       go : (m < n → listing p n ≡ m ∷ listing q n) → (m < n) ⊎ (n ≤ m) → listing p (suc n) ≡ m ∷ listing q (suc n)
       go rest (inl b) =
-          listing_suc p n ∙ ap₂ (λ l c. l ++ cond c (n ∷ []) []) (rest b) (sym (stays n b)) ∙ ap (λ l. m ∷ l) (sym (listing_suc q n))
+          rw (listing_suc p n, listing_suc q n, rest b, stays n b)
       go rest (inr b) =
           let e : n ≡ m = omega arith in
-          listing_suc p n
-          ∙ ap₂ (λ l c. l ++ cond c (n ∷ []) []) (listing_none p n (λ k k<n. least k (omega arith))) (ap p e ∙ here)
-          ∙ ap (λ x. x ∷ []) e
-          ∙ sym (ap (λ l. m ∷ l) (listing_none q (suc n) (λ k k<n. elim (cases_lt k m) [ inl a ↦ none k a | inr a ↦ let is : k ≡ m = omega arith in ap q is ∙ gone ])))
+          let before : listing p n ≡ [] = listing_none p n (λ k k<n. least k (omega arith)) in
+          let without : listing q (suc n) ≡ [] =
+          listing_none q (suc n) (λ k k<n. elim (cases_lt k m) [ inl a ↦ none k a | inr a ↦ let is : k ≡ m = omega arith in ap q is ∙ gone ]) in
+          rw (without, listing_suc p n, before, ap p e ∙ here) (ap (λ x. x ∷ []) e)
 
 -- the list names just the numbers that pass
 pub listing_lists : (p : ℕ → Bool) (n : ℕ) → ((k : ℕ) → n ≤ k → p k ≡ false) → Lists p (listing p n)

@@ -1,10 +1,10 @@
--- What a cursor along the words has still to give: as it begins, as it goes on to the next word, past the last word, and as it
+-- What a cursor along the words has still to give: as it begins, as it goes on to a later word, where no word is left, and as it
 -- gives the lowest number of a word. Assumes nothing.
 use Rattle.std.proofs.Common.{◌≡◌, ℕ, suc, ◌+◌, ◌-◌, ◌*◌, ◌/◌, ◌%◌, ◌^◌, ◌<◌, ◌≤◌, Bool, true, false, not, ◌&&◌, eqb, ltb, ◌∷◌, length, sym, ap, ◌∙◌, ap₂, inl, inr, arith}
 use mathlib.Core.Bool.{and-true}
 use lib.Bits.{bit_xor}
 use lib.Count.{count_trailing_zeros}
-use Rattle.std.proofs.lemmas.Bool.{eq-eqb, ne_eqb, cases_eq, cases_lt, lt-ltb, le-ltb}
+use Rattle.std.proofs.lemmas.Bool.{eq-eqb, ne_eqb, cases_eq, cases_lt, cases_order, lt-ltb, le-ltb}
 use Rattle.bits.specs.Bits.{bit, how_many, listing, pending}
 use Rattle.bits.proofs.Digits.{bit_zero, bit_cleared, lowest}
 use Rattle.bits.proofs.Counts.{listing_first}
@@ -36,28 +36,28 @@ module _ (p : ℕ → Bool) where
   ]
 
   -- no digit of this word is left
-  none_left : (row n : ℕ) → n / 64 ≡ row → pending p row 0 n ≡ false
-  none_left row n e = here row 0 n e ∙ bit_zero (n % 64)
-
-  pub pending_next : (row w n : ℕ) → Word p (row + 1) w → pending p (row + 1) w n ≡ pending p row 0 n
-  pending_next row w n is = elim (cases_lt (n / 64) (row + 1)) [
-    | inl l ↦ earlier (row + 1) w n l ∙ sym (elim (cases_eq (n / 64) row) [
-      | inl e ↦ none_left row n e
-      | inr d ↦ earlier row 0 n (omega (arith, d))
-    ])
-    | inr l ↦ elim (cases_eq (n / 64) (row + 1)) [
-      | inl e ↦ at_word (row + 1) w n is e
-      | inr d ↦ later (row + 1) w n (omega (arith, d))
-    ] ∙ sym (later row 0 n (omega arith))
+  none_left : (row n : ℕ) → n / 64 ≤ row → pending p row 0 n ≡ false
+  none_left row n l = elim (cases_eq (n / 64) row) [
+    | inl e ↦ here row 0 n e ∙ bit_zero (n % 64)
+    | inr d ↦ earlier row 0 n (omega (arith, d))
   ]
 
-  pub pending_end : (row count n : ℕ) → (count + 63) / 64 ≤ row → ((k : ℕ) → count ≤ k → p k ≡ false) → pending p row 0 n ≡ false
-  pending_end row count n l none = elim (cases_eq (n / 64) row) [
-    | inl e ↦ none_left row n e
-    | inr d ↦ elim (cases_lt (n / 64) row) [
-      | inl b ↦ earlier row 0 n b
-      | inr b ↦ later row 0 n (omega (arith, d)) ∙ none n (omega arith)
-    ]
+  -- no later number passes
+  pub pending_none : (row n : ℕ) → ((k : ℕ) → row < k / 64 → p k ≡ false) → pending p row 0 n ≡ false
+  pending_none row n none = elim (cases_lt row (n / 64)) [
+    | inl l ↦ later row 0 n l ∙ none n l
+    | inr l ↦ none_left row n l
+  ]
+
+  -- no number passes from this word up to a later one, which is w
+  pub pending_later : (row next w n : ℕ) → row < next → Word p next w → ((k : ℕ) → row < k / 64 → k / 64 < next → p k ≡ false) → pending p next w n ≡ pending p row 0 n
+  pending_later row next w n l is none = elim (cases_order (n / 64) next) [
+    | inl e ↦ at_word next w n is e ∙ sym (later row 0 n (omega arith))
+    | inr (inl b) ↦ earlier next w n b ∙ sym (elim (cases_lt row (n / 64)) [
+      | inl a ↦ later row 0 n a ∙ none n a b
+      | inr a ↦ none_left row n a
+    ])
+    | inr (inr b) ↦ later next w n b ∙ sym (later row 0 n (omega arith))
   ]
 
   -- the lowest digit of `bits` is at k

@@ -1,6 +1,6 @@
--- Rows of 64-bit words as sets of numbers: a word stored, one number put in, what a walk along the words comes to.
+-- Rows of 64-bit words as sets of numbers: a word stored, one number put in, the words counted one after the other.
 -- Assumes nothing.
-use Rattle.std.proofs.Common.{◌≡◌, ℕ, ◌+◌, ◌-◌, ◌*◌, ◌/◌, ◌%◌, ◌^◌, ◌<◌, ◌≤◌, Bool, false, cond, ◌&&◌, ◌||◌, eqb, ltb, ◌⊎◌, List, length, get_or, set, replicate, sym, refl, ap, ◌∙◌, subst, ap₂, inl, inr, arith}
+use Rattle.std.proofs.Common.{◌≡◌, ℕ, ◌+◌, ◌-◌, ◌*◌, ◌/◌, ◌%◌, ◌^◌, ◌<◌, ◌≤◌, false, cond, ◌&&◌, ◌||◌, eqb, ltb, ◌⊎◌, List, length, get_or, set, replicate, sym, refl, ap, ◌∙◌, subst, ap₂, inl, inr, arith}
 use mathlib.Core.Bool.{and-false, or-false}
 use lib.Count.{ones}
 use lib.Bits.{bit_or, bit_and}
@@ -39,11 +39,9 @@ parts : (ws : List ℕ) (i n : ℕ) → get_or ws i 0 < 2 ^ 64
     → how_many (has ws) (i * 64 + (64 + n)) ≡ how_many (has ws) (i * 64) + (ones (get_or ws i 0) + how_many (λ k. has ws (i * 64 + (64 + k))) n)
 parts ws i n fits =
     let w = get_or ws i 0 in
-    count_add (has ws) (i * 64) (64 + n)
-    ∙ ap (λ x. how_many (has ws) (i * 64) + x) (
-    count_add (λ k. has ws (i * 64 + k)) 64 n
-    ∙ ap (λ x. x + how_many (λ k. has ws (i * 64 + (64 + k))) n)
-    (count_ext (λ k. has ws (i * 64 + k)) (bit w) 64 (λ k b. sym (word_has ws i k b)) ∙ sym (ones_count 64 w fits)))
+    let word : how_many (λ k. has ws (i * 64 + k)) 64 ≡ ones w =
+    count_ext (λ k. has ws (i * 64 + k)) (bit w) 64 (λ k b. sym (word_has ws i k b)) ∙ sym (ones_count 64 w fits) in
+    omega (arith, count_add (has ws) (i * 64) (64 + n), count_add (λ k. has ws (i * 64 + k)) 64 n, word)
 
 -- nothing stands at or beyond n
 abbrev pub Below : List ℕ → ℕ → Type 0
@@ -67,46 +65,79 @@ word_room ws i n old count is fits h counted =
     let o : ones old ≡ ones (get_or ws i 0) = ap ones is in
     omega arith
 
--- ---- the word w, cut by m to numbers below n, is stored at i
+-- ---- a word stored
 
-module _ (ws : List ℕ) (i w m n : ℕ) (l : i < length ws) (fits : m < 2 ^ 64) (low : Low m i n) where
+-- the word w, cut by m to numbers below n, is stored at i
+pub record Cut (ws : List ℕ) (i w m n : ℕ) : Type 0 where
+  pub inside : i < length ws
+  pub fits : m < 2 ^ 64
+  pub low : Low m i n
+
+module _ {ws : List ℕ} {i w m n : ℕ} (h : Cut ws i w m n) where
   cut : (k : ℕ) → k / 64 ≡ i → bit (bit_and w m) (k % 64) ≡ (bit w (k % 64) && ltb k n)
-  cut k e = bit-bit_and w m (k % 64) ∙ ap (λ b. bit w (k % 64) && b) (low (k % 64) (omega arith) ∙ elim (cases_lt k n) [
+  cut k e = bit-bit_and w m (k % 64) ∙ ap (λ b. bit w (k % 64) && b) (h.low (k % 64) (omega arith) ∙ elim (cases_lt k n) [
     | inl b ↦ lt-ltb (k % 64) (n - i * 64) (omega arith) ∙ sym (lt-ltb k n b)
     | inr b ↦ le-ltb (k % 64) (n - i * 64) (omega arith) ∙ sym (le-ltb k n b)
   ])
 
+  pub stored_here : (k : ℕ) → k / 64 ≡ i → has (set ws i (bit_and w m)) k ≡ (bit w (k % 64) && ltb k n)
+  stored_here k e = has_set_here ws i (bit_and w m) k h.inside e ∙ cut k e
+
+  pub stored_there : (k : ℕ) → (k / 64 ≡ i → ⊥) → has (set ws i (bit_and w m)) k ≡ has ws k
+  stored_there k d = has_set_there ws i (bit_and w m) k d
+
   pub stored_has : (k : ℕ) → has (set ws i (bit_and w m)) k ≡ cond (eqb (k / 64) i) (bit w (k % 64) && ltb k n) (has ws k)
   stored_has k = elim (cases_eq (k / 64) i) [
-    | inl e ↦ rw (eq-eqb (k / 64) i e) (has_set_here ws i (bit_and w m) k l e ∙ cut k e)
-    | inr d ↦ rw (ne_eqb (k / 64) i d) (has_set_there ws i (bit_and w m) k d)
+    | inl e ↦ rw (eq-eqb (k / 64) i e) (stored_here k e)
+    | inr d ↦ rw (ne_eqb (k / 64) i d) (stored_there k d)
   ]
 
   pub stored_below : Below ws n → Below (set ws i (bit_and w m)) n
-  stored_below h k g = elim (cases_eq (k / 64) i) [
-    | inl e ↦ has_set_here ws i (bit_and w m) k l e ∙ cut k e ∙ ap (λ b. bit w (k % 64) && b) (le-ltb k n g) ∙ and-false (bit w (k % 64))
-    | inr d ↦ has_set_there ws i (bit_and w m) k d ∙ h k g
+  stored_below below k g = elim (cases_eq (k / 64) i) [
+    | inl e ↦ stored_here k e ∙ ap (λ b. bit w (k % 64) && b) (le-ltb k n g) ∙ and-false (bit w (k % 64))
+    | inr d ↦ stored_there k d ∙ below k g
   ]
+
+  front : how_many (has (set ws i (bit_and w m))) (i * 64) ≡ how_many (has ws) (i * 64)
+  front = count_ext (has (set ws i (bit_and w m))) (has ws) (i * 64) (λ k q. has_set_there ws i (bit_and w m) k (λ e. omega arith))
+
+  small : bit_and w m < 2 ^ 64
+  small = omega (arith, and_le_r w m, h.fits)
 
   pub stored_count : (old count : ℕ) → old ≡ get_or ws i 0 → old < 2 ^ 64 → Below ws n → count ≡ how_many (has ws) n
       → count - ones old + ones (bit_and w m) ≡ how_many (has (set ws i (bit_and w m))) n
-  stored_count old count is fits' h counted =
+  stored_count old count is fits below counted =
       let v = bit_and w m in
       let ws' = set ws i v in
-      let small : v < 2 ^ 64 = omega (arith, and_le_r w m) in
-      let here : get_or ws' i 0 ≡ v = get_or-set_same ws i v 0 l in
-      let a = whole ws i n (subst (λ x. x < 2 ^ 64) is fits') h in
-      let b = whole ws' i n (subst (λ x. x < 2 ^ 64) (sym here) small) (stored_below h) in
-      let front : how_many (has ws') (i * 64) ≡ how_many (has ws) (i * 64) = count_ext (has ws') (has ws) (i * 64) (λ k q. has_set_there ws i v k (λ e. omega arith)) in
+      let here : get_or ws' i 0 ≡ v = get_or-set_same ws i v 0 h.inside in
+      let a = whole ws i n (subst (λ x. x < 2 ^ 64) is fits) below in
+      let b = whole ws' i n (subst (λ x. x < 2 ^ 64) (sym here) small) (stored_below below) in
+      let before = front in
       let back : how_many (λ k. has ws' (i * 64 + (64 + k))) n ≡ how_many (λ k. has ws (i * 64 + (64 + k))) n =
       count_ext (λ k. has ws' (i * 64 + (64 + k))) (λ k. has ws (i * 64 + (64 + k))) n (λ k q. has_set_there ws i v (i * 64 + (64 + k)) (λ e. omega arith)) in
       let o : ones (get_or ws' i 0) ≡ ones v = ap ones here in
       let o' : ones old ≡ ones (get_or ws i 0) = ap ones is in
       omega arith
 
--- ---- the number n is put in: `old` is its word, x its lone digit
+  -- the numbers of the words before i are counted, and then those of the word i too
+  pub stored_more : (count : ℕ) → count ≡ how_many (has ws) (i * 64) → count + ones (bit_and w m) ≡ how_many (has (set ws i (bit_and w m))) ((i + 1) * 64)
+  stored_more count counted =
+      let v = bit_and w m in
+      let ws' = set ws i v in
+      let next : (i + 1) * 64 ≡ i * 64 + 64 = omega arith in
+      let word : how_many (λ k. has ws' (i * 64 + k)) 64 ≡ ones v =
+      count_ext (λ k. has ws' (i * 64 + k)) (bit v) 64 (λ k b. sym (word_has ws' i k b) ∙ ap (λ x. bit x k) (get_or-set_same ws i v 0 h.inside)) ∙ sym (ones_count 64 v small) in
+      ap₂ (λ x y. x + y) (counted ∙ sym front) (sym word) ∙ sym (ap (how_many (has ws')) next ∙ count_add (has ws') (i * 64) 64)
 
-module _ (ws : List ℕ) (n old x : ℕ) (within : n / 64 < length ws) (was : old ≡ get_or ws (n / 64) 0) (is : x ≡ 2 ^ (n % 64)) where
+-- ---- one number put in
+
+-- the number n is put in: `old` is its word, x its lone digit
+pub record Put (ws : List ℕ) (n old x : ℕ) : Type 0 where
+  pub inside : n / 64 < length ws
+  pub was : old ≡ get_or ws (n / 64) 0
+  pub lone : x ≡ 2 ^ (n % 64)
+
+module _ {ws : List ℕ} {n old x : ℕ} (h : Put ws n old x) where
   same_place : (k : ℕ) → k / 64 ≡ n / 64 → eqb (k % 64) (n % 64) ≡ eqb k n
   same_place k e = elim (cases_eq k n) [
     | inl q ↦ eq-eqb (k % 64) (n % 64) (ap (λ y. y % 64) q) ∙ sym (eq-eqb k n q)
@@ -116,44 +147,17 @@ module _ (ws : List ℕ) (n old x : ℕ) (within : n / 64 < length ws) (was : ol
   pub put_has : (k : ℕ) → has (set ws (n / 64) (bit_or old x)) k ≡ (has ws k || eqb k n)
   put_has k = elim (cases_eq (k / 64) (n / 64)) [
     | inl e ↦
-        has_set_here ws (n / 64) (bit_or old x) k within e ∙ bit-bit_or old x (k % 64)
-        ∙ ap₂ (λ a b. a || b) (ap (λ y. bit y (k % 64)) (was ∙ ap (λ j. get_or ws j 0) (sym e))) (ap (λ y. bit y (k % 64)) is ∙ bit_lone (n % 64) (k % 64) ∙ same_place k e)
+        has_set_here ws (n / 64) (bit_or old x) k h.inside e ∙ bit-bit_or old x (k % 64)
+        ∙ ap₂ (λ a b. a || b) (ap (λ y. bit y (k % 64)) (h.was ∙ ap (λ j. get_or ws j 0) (sym e))) (ap (λ y. bit y (k % 64)) h.lone ∙ bit_lone (n % 64) (k % 64) ∙ same_place k e)
     | inr d ↦
-        has_set_there ws (n / 64) (bit_or old x) k d
-        ∙ sym (ap (λ y. has ws k || y) (ne_eqb k n (λ q. d (ap (λ y. y / 64) q))) ∙ or-false (has ws k))
+        rw (ne_eqb k n (λ q. d (ap (λ y. y / 64) q)), or-false) (has_set_there ws (n / 64) (bit_or old x) k d)
   ]
 
   pub put_below : (m : ℕ) → n < m → Below ws m → Below (set ws (n / 64) (bit_or old x)) m
-  put_below m l h k g = put_has k ∙ ap₂ (λ a b. a || b) (h k g) (ne_eqb k n (λ e. omega arith))
+  put_below m l below k g = put_has k ∙ ap₂ (λ a b. a || b) (below k g) (ne_eqb k n (λ e. omega arith))
 
   pub put_count : (m : ℕ) → n < m → has ws n ≡ false → how_many (has (set ws (n / 64) (bit_or old x))) m ≡ how_many (has ws) m + 1
   put_count m l f =
       count_one (has ws) (has (set ws (n / 64) (bit_or old x))) n m l f
       (put_has n ∙ ap (λ y. y || eqb n n) f ∙ eq-eqb n n refl)
       (λ k d. put_has k ∙ ap (λ y. has ws k || y) (ne_eqb k n d) ∙ or-false (has ws k))
-
--- ---- a walk along the words: the numbers of the words before i are those of q, the others still those of p
-
-abbrev pub up_to : (ℕ → Bool) → (ℕ → Bool) → ℕ → ℕ → Bool
-up_to p q i k = cond (ltb (k / 64) i) (q k) (p k)
-
--- the word i is then that of v
-pub up_to_more : (p q v : ℕ → Bool) (i k : ℕ) → (k / 64 ≡ i → v k ≡ q k) → cond (eqb (k / 64) i) (v k) (up_to p q i k) ≡ up_to p q (i + 1) k
-up_to_more p q v i k same = elim (cases_eq (k / 64) i) [
-  | inl e ↦ rw (eq-eqb (k / 64) i e, lt-ltb (k / 64) (i + 1) (omega arith)) (same e)
-  | inr d ↦ rw (ne_eqb (k / 64) i d) (elim (cases_lt (k / 64) i) [
-    | inl l ↦ rw (lt-ltb (k / 64) i l, lt-ltb (k / 64) (i + 1) (omega arith))
-    | inr l ↦ rw (le-ltb (k / 64) i l, le-ltb (k / 64) (i + 1) (omega (arith, d)))
-  ])
-]
-
--- the words are all done
-pub up_to_all : (p q : ℕ → Bool) (i n k : ℕ) → (n + 63) / 64 ≤ i → ((j : ℕ) → n ≤ j → p j ≡ false) → ((j : ℕ) → n ≤ j → q j ≡ false) → up_to p q i k ≡ q k
-up_to_all p q i n k l none none' = elim (cases_lt (k / 64) i) [
-  | inl b ↦ rw (lt-ltb (k / 64) i b)
-  | inr b ↦ rw (le-ltb (k / 64) i b) (none k (omega arith) ∙ sym (none' k (omega arith)))
-]
-
--- the words from i on are still as they were
-pub up_to_here : (p q : ℕ → Bool) (i k : ℕ) → k / 64 ≡ i → up_to p q i k ≡ p k
-up_to_here p q i k e = rw (le-ltb (k / 64) i (omega arith))

@@ -1,6 +1,6 @@
 -- Calls of a draft to which no refusal applies. Assumes nothing.
-use Rattle.std.proofs.Common.{◌≡◌, ℕ, ◌*◌, ◌<◌, ◌≤◌, false, ◌||◌, ltb, leb, List, length, None, Option, Result, sym, ◌∙◌, subst}
-use Rattle.std.proofs.lemmas.Bool.{cond-false, lt-leb, le-ltb, or_from}
+use Rattle.std.proofs.Common.{◌≡◌, ℕ, ◌*◌, ◌<◌, ◌≤◌, false, List, length, None, Option, Result, sym, subst, arith}
+use Rattle.std.proofs.lemmas.Bool.Decides.{nat_tests}
 use Rattle.theory.specs.Limits.{node_limit, edge_limit}
 use Rattle.index.specs.declared.records.WeakIndex.{WeakIndex}
 use Rattle.index.specs.declared.refusal.Refusal.{Refusal}
@@ -8,11 +8,7 @@ use Rattle.draft.specs.Drafting.{State, set_up_refused, SetsUp, SetsUpBy, edge_r
 
 pub edge_fits : (d : State) (s t : ℕ) (weak : Option WeakIndex) → s < d.nodes → t < d.nodes → unregistered (length d.pairs) weak ≡ false
     → d.edges < edge_limit → d.edges < room_for (length d.words) d.nodes → edge_refused d s t weak ≡ None
-edge_fits d s t weak a b u k m =
-    cond-false (leb d.nodes s) _ _ (lt-leb d.nodes s a) ∙ cond-false (leb d.nodes t) _ _ (lt-leb d.nodes t b)
-    ∙ cond-false (unregistered (length d.pairs) weak) _ _ u
-    ∙ cond-false (leb edge_limit d.edges || leb (room_for (length d.words) d.nodes) d.edges) _ _
-    (or_from (leb edge_limit d.edges) (leb (room_for (length d.words) d.nodes) d.edges) (lt-leb edge_limit d.edges k) (lt-leb (room_for (length d.words) d.nodes) d.edges m))
+edge_fits d s t weak a b u k m = grind (arith, nat_tests)
 
 module _ {W : Type 0} (held : List ℕ → W) (weak : Option WeakIndex) (d : State) (s t : ℕ) (w : W) (r : Result ℕ Refusal) (d' : State) (fits : edge_refused d s t weak ≡ None) where
   pub taken : TakesEdgeBy None held d s t w r d' → TakesEdge held weak d s t w r d'
@@ -22,8 +18,7 @@ module _ {W : Type 0} (held : List ℕ → W) (weak : Option WeakIndex) (d : Sta
   takes h = subst (λ o. TakesEdgeBy o held d s t w r d') fits h
 
 pub set_up_fits : (nodes long : ℕ) → nodes ≤ node_limit → 2 * nodes ≤ long → set_up_refused nodes long ≡ None
-set_up_fits nodes long a b =
-    cond-false (ltb node_limit nodes) _ _ (le-ltb node_limit nodes a) ∙ cond-false (ltb long (2 * nodes)) _ _ (le-ltb long (2 * nodes) b)
+set_up_fits nodes long a b = grind (arith, nat_tests)
 
 pub sets_up : (d : State) (nodes : ℕ) (r : Result (Unit {0}) Refusal) (d' : State) → nodes ≤ node_limit → 2 * nodes ≤ length d.words → SetsUp d nodes r d' → SetsUpBy None d nodes r d'
 sets_up d nodes r d' a b h = subst (λ o. SetsUpBy o d nodes r d') (set_up_fits nodes (length d.words) a b) h

@@ -1,62 +1,34 @@
 -- The text of each answer, in bytes.  Writes: a call added a text, unless memory was wanting.
 -- refusal_text, complaint_text, pair_text, size_text: one line each, without its end.
 -- list_text: an `out` or `into` line: the node, how many edges, and each as source>target#number. Assumes nothing.
-use Rattle.std.specs.Prelude.{◌≡◌, ℕ, List, [], ◌∷◌, ◌++◌, length, codes, decimal, Result, OnOk}
+use Rattle.std.specs.Prelude.{◌≡◌, ℕ, List, [], ◌∷◌, ◌++◌, Some, None, Option, length, codes, decimal, Result, OnOk}
 use Rattle.std.specs.List.{between}
 use Rattle.theory.specs.Edges.{Edge}
-use Rattle.index.specs.declared.refusal.Layer.{Layer}
-use Rattle.index.specs.declared.refusal.Layer.TheVariants.{Graph, Rack}
+use Rattle.index.specs.Printed.{told_text}
 use Rattle.index.specs.declared.refusal.Told.{Told}
+use Rattle.words.specs.declared.Span.{Span}
 use Rattle.records.specs.declared.Complaint.{Complaint}
-use Rattle.records.specs.declared.Complaint.TheVariants.{WordMissing, NoNumber, MaskAbove255, UnknownKind, UnknownForm, UnknownCall, WordTooMany, EdgeWithoutGraph, PairWithoutFeatureDraft, SetUpWithoutGraph, CallBeforeSetUp}
+use Rattle.records.specs.Complaints.{why_text, wrong_word}
 
 -- the bytes after a call are those before it and the text, or memory was wanting
 abbrev pub Writes : {X Y : Type 0} → Result X Y → List ℕ → List ℕ → List ℕ → Type 0
 Writes r before text after = OnOk r (after ≡ before ++ text)
 
-abbrev pub layer_text : Layer → List ℕ
-layer_text Graph = codes "graph"
-layer_text Rack = codes "rack"
-
 -- refused NUMBER LAYER DETAIL LINE
 abbrev pub refusal_text : Told → ℕ → List ℕ
-refusal_text told line =
-    codes "refused " ++ (decimal told.number ++ (codes " " ++ (layer_text told.layer ++ (codes " " ++ (decimal told.detail ++ (codes " " ++ decimal line))))))
+refusal_text told line = codes "refused " ++ (told_text told ++ (codes " " ++ decimal line))
 
--- what is wrong with a line
-abbrev pub why_text : Complaint → List ℕ
-why_text WordMissing = codes "word missing"
-why_text (NoNumber w) = codes "no number: "
-why_text MaskAbove255 = codes "mask above 255"
-why_text (UnknownKind w) = codes "unknown kind: "
-why_text (UnknownForm w) = codes "unknown form: "
-why_text (UnknownCall w) = codes "unknown call: "
-why_text (WordTooMany w) = codes "word too many: "
-why_text EdgeWithoutGraph = codes "edge without a graph"
-why_text PairWithoutFeatureDraft = codes "pair without a feature draft"
-why_text SetUpWithoutGraph = codes "set-up without a graph"
-why_text CallBeforeSetUp = codes "call before set-up"
-
--- the word of the line that is wrong, as it stands
-abbrev pub word_of : Complaint → List ℕ → List ℕ
-word_of WordMissing line = []
-word_of (NoNumber w) line = between w.start w.end line
-word_of MaskAbove255 line = []
-word_of (UnknownKind w) line = between w.start w.end line
-word_of (UnknownForm w) line = between w.start w.end line
-word_of (UnknownCall w) line = between w.start w.end line
-word_of (WordTooMany w) line = between w.start w.end line
-word_of EdgeWithoutGraph line = []
-word_of PairWithoutFeatureDraft line = []
-word_of SetUpWithoutGraph line = []
-word_of CallBeforeSetUp line = []
+-- the bytes of the word that is wrong, as it stands in the line
+abbrev pub word_bytes : Option Span → List ℕ → List ℕ
+word_bytes None line = []
+word_bytes (Some w) line = between w.start w.end line
 
 abbrev pub bad_text : Complaint → ℕ → List ℕ
 bad_text complaint number = codes "bad line " ++ (decimal number ++ (codes ": " ++ why_text complaint))
 
 -- bad line NUMBER: WHY
 abbrev pub complaint_text : Complaint → List ℕ → ℕ → List ℕ
-complaint_text complaint line number = bad_text complaint number ++ word_of complaint line
+complaint_text complaint line number = bad_text complaint number ++ word_bytes (wrong_word complaint) line
 
 abbrev pub pair_text : ℕ → List ℕ
 pair_text index = codes "pair " ++ decimal index

@@ -4,7 +4,7 @@ ghost use Rattle.orders.specs.Lines.{Gives};
 
 use words::line_end;
 
-#[derive(Clone, Copy)]
+#[derive(Clone, Copy, PartialEq, Eq, Debug)]
 pub struct Line<'a> {
     pub number: usize,
     pub text: &'a [u8],
@@ -32,23 +32,32 @@ impl<'a> Lines<'a> {
             number: 0,
         }
     }
+}
+
+impl<'a> Iterator for Lines<'a> {
+    type Item = Line<'a>;
+
+    ghost use Rattle.std.specs.Prelude.{◌≡◌};
+    ghost use Rattle.std.specs.Iterator.{at_most};
+    ghost use Rattle.orders.specs.Lines.{Gives};
+    ghost use Rattle.orders.specs.Unread.{unread};
+
+    ghost next_gives = { λ s r t. (t.text.now ≡ s.text.now) × Gives s.text.now s.at s.number r t.at t.number };
+
+    ghost remaining = { λ s. at_most (unread s) };
 
     // The next line, without its end.
-    pub fn next(&mut self) -> Option<Line<'a>>
-        ensures gives { Gives self.old.text.now self.old.at self.old.number result self.new.at self.new.number }
-        ensures text { self.new.text.now ≡ self.old.text.now }
-    {
+    fn next(&mut self) -> Option<Line<'a>> {
         let text = self.text;
         let at = self.at;
         if at >= text.len() {
             return None;
         }
         let end = line_end(text, at);
-        let number = self.number + 1;
-        self.at = if end < text.len() { end + 1 } else { end };
-        self.number = number;
+        self.at = (end + 1).min(text.len());
+        self.number += 1;
         Some(Line {
-            number,
+            number: self.number,
             text: &text[at..end],
         })
     }

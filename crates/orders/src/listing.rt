@@ -1,112 +1,64 @@
-// The edges at a node, in the order of the graph's list, as one line of the program's answer.
+// The edges at a node, in the order of the graph's list, as one answer on a page.
 ghost use Rattle.std.specs.Prelude.{◌≡◌, ◌^◌, ◌<◌, length, codes};
-ghost use Rattle.orders.specs.Wording.{Writes, edge_text, edges_text, head_text, list_text};
+ghost use Rattle.orders.specs.Wording.{Writes, edge_text, edges_text, list_text};
 
+use crate::page::Page;
+use graph::edge::EdgeRef;
+use graph::edges::Edges;
 use graph::graph::{BothWays, Graph};
 use index::spec::IndexType;
-use std::alloc::{AllocError, Global};
+use std::alloc::AllocError;
 
-fn write_edge(
-    out: &mut Vec<u8>,
-    heap: Global,
-    source: u32,
-    target: u32,
-    number: u32,
-) -> Result<(), AllocError>
-    ensures { Writes result out.old.items (edge_text source target number) out.new.items }
-{
-    let text = format!(in heap; " {source}>{target}#{number}")?;
-    out.extend_from_slice(text.as_bytes())
-}
-
-fn write_head(
-    out: &mut Vec<u8>,
-    heap: Global,
-    name: &str,
-    node: u32,
-    count: usize,
-) -> Result<(), AllocError>
-    ensures { Writes result out.old.items (head_text name.now node count) out.new.items }
-{
-    let text = format!(in heap; "{name} {node} {count}")?;
-    out.extend_from_slice(text.as_bytes())
-}
-
-// The edges that a cursor has still to give.
-fn write_edges<G: Graph>(
-    out: &mut Vec<u8>,
-    heap: Global,
-    graph: &G,
-    start: G::Cursor,
-) -> Result<(), AllocError>
-    ensures { Writes result out.old.items (edges_text (G.rest graph.now start)) out.new.items }
-{
-    let mut c = start;
-    while let Some(edge) = graph.next(&mut c) {
-        write_edge(
-            out,
-            heap,
-            edge.source.index(),
-            edge.target.index(),
-            edge.number,
-        )?;
+impl Page {
+    // The edges that leave a node; none leave an index that is no node.
+    pub fn outgoing<G: Graph>(&mut self, graph: &G, node: u32) -> Result<(), AllocError>
+        ensures { Writes result self.old (list_text (codes "out") node (G.outs graph.now node)) self.new }
+    {
+        let start = graph.outgoing(G::Ix::new(node));
+        self.list("out", node, graph, start)
     }
-    Ok(())
-}
 
-// How many edges a cursor has still to give.
-fn count<G: Graph>(graph: &G, start: G::Cursor) -> usize
-    requires { length (G.rest graph.now start) < 2 ^ 64 }
-    ensures { result ≡ length (G.rest graph.now start) }
-{
-    let mut c = start;
-    let mut k = 0;
-    while let Some(_edge) = graph.next(&mut c) {
-        k += 1;
+    // The edges that enter a node.
+    pub fn incoming<G: BothWays>(&mut self, graph: &G, node: u32) -> Result<(), AllocError>
+        ensures { Writes result self.old (list_text (codes "into") node (G.ins graph.now node)) self.new }
+    {
+        let start = graph.incoming(G::Ix::new(node));
+        self.list("into", node, graph, start)
     }
-    k
-}
 
-fn write_list<G: Graph>(
-    out: &mut Vec<u8>,
-    heap: Global,
-    name: &str,
-    node: u32,
-    graph: &G,
-    start: G::Cursor,
-) -> Result<(), AllocError>
-    requires { length (G.rest graph.now start) < 2 ^ 64 }
-    ensures { Writes result out.old.items (list_text name.now node (G.rest graph.now start)) out.new.items }
-{
-    let k = count(graph, start);
-    write_head(out, heap, name, node, k)?;
-    write_edges(out, heap, graph, start)
-}
+    // What a cursor has still to give, under a name.
+    fn list<G: Graph>(
+        &mut self,
+        name: &str,
+        node: u32,
+        graph: &G,
+        start: G::Cursor,
+    ) -> Result<(), AllocError>
+        requires { length (G.rest graph.now start) < 2 ^ 64 }
+        ensures { Writes result self.old (list_text name.now node (G.rest graph.now start)) self.new }
+    {
+        let edges = Edges {
+            graph,
+            cursor: start,
+        };
+        let count = edges.count();
+        write!(self, "{name} {node} {count}")?;
+        let edges = Edges {
+            graph,
+            cursor: start,
+        };
+        for edge in edges {
+            self.edge(edge)?;
+        }
+        Ok(())
+    }
 
-// The edges that leave a node; none leave an index that is no node.
-pub fn write_out<G: Graph>(
-    out: &mut Vec<u8>,
-    heap: Global,
-    graph: &G,
-    node: u32,
-) -> Result<(), AllocError>
-    ensures { Writes result out.old.items (list_text (codes "out") node (G.outs graph.now node)) out.new.items }
-{
-    graph.sound();
-    let start = graph.outgoing(G::Ix::new(node));
-    write_list(out, heap, "out", node, graph, start)
-}
-
-// The edges that enter a node.
-pub fn write_into<G: BothWays>(
-    out: &mut Vec<u8>,
-    heap: Global,
-    graph: &G,
-    node: u32,
-) -> Result<(), AllocError>
-    ensures { Writes result out.old.items (list_text (codes "into") node (G.ins graph.now node)) out.new.items }
-{
-    graph.sound();
-    let start = graph.incoming(G::Ix::new(node));
-    write_list(out, heap, "into", node, graph, start)
+    fn edge<I: IndexType, W: Copy>(&mut self, edge: EdgeRef<I, W>) -> Result<(), AllocError>
+        ensures { Writes result self.old (edge_text (I.number edge.source) (I.number edge.target) edge.number) self.new }
+    {
+        let source = edge.source.index();
+        let target = edge.target.index();
+        let number = edge.number;
+        write!(self, " {source}>{target}#{number}")
+    }
 }

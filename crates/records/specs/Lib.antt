@@ -1,3 +1,4 @@
+pub mod Complaints
 pub mod Drafts
 pub mod Forms
 pub mod Queries

@@ -1,16 +1,17 @@
 // The records that make a graph: its kind and nodes, its pairs and edges, and its end.
 // All but the first belong to a draft, a graph to which edges are still added.
 ghost use Rattle.std.specs.Prelude.{◌≡◌};
-ghost use Rattle.records.specs.Drafts.{draft_of, edge_at, graph_at, kind_named, pair_at, set_up_in};
+ghost use Rattle.records.specs.Drafts.{edge_at, graph_at, kind_named, pair_at, set_up_in};
 
+use crate::complaints::Complaint;
 use crate::cursor::Words;
 use crate::forms::read_form;
-use crate::values::{Complaint, Kind, Record, Standing};
+use crate::values::{Kind, Record, Standing};
 use words::Span;
 
 // `graph KIND N`: N is read before the kind is judged.
-pub(crate) fn read_graph(mut words: Words<'_>) -> Result<Record, Complaint>
-    ensures { result ≡ graph_at words.entry.text.now words.entry.at }
+pub(crate) fn read_graph(words: &mut Words<'_>) -> Result<Record, Complaint>
+    ensures { result ≡ graph_at words.old }
 {
     let word = words.word()?;
     let nodes = words.number()?;
@@ -19,23 +20,21 @@ pub(crate) fn read_graph(mut words: Words<'_>) -> Result<Record, Complaint>
 }
 
 // The kind that a word names.
-fn kind_named(words: Words<'_>, word: Span) -> Result<Kind, Complaint>
-    ensures { result ≡ kind_named words.entry.text.now word }
+fn kind_named(words: &Words<'_>, word: Span) -> Result<Kind, Complaint>
+    ensures { result ≡ kind_named words.now word }
 {
-    if words.is(word, b"feature") {
-        Ok(Kind::Feature)
-    } else if words.is(word, b"package") {
-        Ok(Kind::Package)
-    } else {
-        Err(Complaint::UnknownKind(word))
+    match words.bytes(word) {
+        b"feature" => Ok(Kind::Feature),
+        b"package" => Ok(Kind::Package),
+        _ => Err(Complaint::UnknownKind(word)),
     }
 }
 
 // `pair REL PE`.
-pub(crate) fn read_pair(mut words: Words<'_>, standing: Standing) -> Result<Record, Complaint>
-    ensures { result ≡ pair_at standing words.entry.text.now words.entry.at }
+pub(crate) fn read_pair(words: &mut Words<'_>, standing: Standing) -> Result<Record, Complaint>
+    ensures { result ≡ pair_at standing words.old }
 {
-    let Standing::FeatureDraft = standing else {
+    let Standing::Draft(Kind::Feature) = standing else {
         return Err(Complaint::PairWithoutFeatureDraft);
     };
     let release = words.number()?;
@@ -47,10 +46,10 @@ pub(crate) fn read_pair(mut words: Words<'_>, standing: Standing) -> Result<Reco
 }
 
 // `edge S T ..`: what follows depends on the kind of the graph.
-pub(crate) fn read_edge(mut words: Words<'_>, standing: Standing) -> Result<Record, Complaint>
-    ensures { result ≡ edge_at standing words.entry.text.now words.entry.at }
+pub(crate) fn read_edge(words: &mut Words<'_>, standing: Standing) -> Result<Record, Complaint>
+    ensures { result ≡ edge_at standing words.old }
 {
-    let kind = draft(standing)?;
+    let kind = standing.draft().ok_or(Complaint::EdgeWithoutGraph)?;
     let source = words.number()?;
     let target = words.number()?;
     match kind {
@@ -73,23 +72,10 @@ pub(crate) fn read_edge(mut words: Words<'_>, standing: Standing) -> Result<Reco
     }
 }
 
-// The kind of the graph to which edges are added.
-fn draft(standing: Standing) -> Result<Kind, Complaint>
-    ensures { result ≡ draft_of standing }
-{
-    match standing {
-        Standing::FeatureDraft => Ok(Kind::Feature),
-        Standing::PackageDraft => Ok(Kind::Package),
-        Standing::Nothing | Standing::Finished => Err(Complaint::EdgeWithoutGraph),
-    }
-}
-
 // `setup`, which ends a draft.
 pub(crate) fn read_set_up(standing: Standing) -> Result<Record, Complaint>
     ensures { result ≡ set_up_in standing }
 {
-    match standing {
-        Standing::FeatureDraft | Standing::PackageDraft => Ok(Record::SetUp),
-        Standing::Nothing | Standing::Finished => Err(Complaint::SetUpWithoutGraph),
-    }
+    standing.draft().ok_or(Complaint::SetUpWithoutGraph)?;
+    Ok(Record::SetUp)
 }

@@ -2,6 +2,7 @@
 // A line is read by itself, with what stands when it comes; no memory is asked for.
 #![tactic(auto)]
 
+mod complaints;
 mod cursor;
 mod drafts;
 mod forms;
@@ -9,5 +10,6 @@ mod queries;
 mod reading;
 mod values;
 
+pub use complaints::Complaint;
 pub use reading::read_record;
-pub use values::{Complaint, Form, Kind, Record, Standing};
+pub use values::{Form, Kind, Record, Standing};

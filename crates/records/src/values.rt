@@ -1,16 +1,18 @@
 // What a line can say, what can be wrong with it, and what stands when it comes.
 // These are plain values: they hold numbers and places, and no text.
+ghost use Rattle.std.specs.Prelude.{◌≡◌};
+
 use words::Span;
 
 // The kind of a graph.
-#[derive(Clone, Copy)]
+#[derive(Clone, Copy, PartialEq, Eq, Debug)]
 pub enum Kind {
     Feature,
     Package,
 }
 
 // What the edge of a feature graph asks for.
-#[derive(Clone, Copy)]
+#[derive(Clone, Copy, PartialEq, Eq, Debug)]
 pub enum Form {
     Named,
     Base,
@@ -31,7 +33,7 @@ pub enum Form {
 }
 
 // What a line says.
-#[derive(Clone, Copy)]
+#[derive(Clone, Copy, PartialEq, Eq, Debug)]
 pub enum Record {
     // The record without the blanks around it.
     Case(Span),
@@ -59,27 +61,24 @@ pub enum Record {
     Size,
 }
 
-// What is wrong with a line, with the word that is.
-#[derive(Clone, Copy)]
-pub enum Complaint {
-    WordMissing,
-    NoNumber(Span),
-    MaskAbove255,
-    UnknownKind(Span),
-    UnknownForm(Span),
-    UnknownCall(Span),
-    WordTooMany(Span),
-    EdgeWithoutGraph,
-    PairWithoutFeatureDraft,
-    SetUpWithoutGraph,
-    CallBeforeSetUp,
-}
-
 // What stands when a line comes: no graph, a graph to which edges are added, or one that is set up.
-#[derive(Clone, Copy)]
+#[derive(Clone, Copy, PartialEq, Eq, Debug)]
 pub enum Standing {
     Nothing,
-    FeatureDraft,
-    PackageDraft,
+    Draft(Kind),
     Finished,
+}
+
+impl Standing {
+    ghost use Rattle.records.specs.Drafts.{draft_of};
+
+    // The kind of the graph to which edges are added.
+    pub(crate) fn draft(self) -> Option<Kind>
+        ensures { result ≡ draft_of self }
+    {
+        match self {
+            Standing::Draft(kind) => Some(kind),
+            Standing::Nothing | Standing::Finished => None,
+        }
+    }
 }

@@ -1,34 +1,28 @@
 -- What the contracts of sets say at concrete numbers: the members of a set that was made, and what a cursor gives.
 -- Assumes nothing.
-use Rattle.std.proofs.Common.{◌≡◌, ℕ, List, [], ◌∷◌, Some, None, Ok, Option, refl, subst, arith}
-use Rattle.std.specs.Option.{option_map}
-use Rattle.theory.specs.Graphs.{Steps}
-use Rattle.index.specs.declared.spec.FeatureIx.{FeatureIx}
+use Rattle.std.proofs.Common.{◌≡◌, ℕ, List, [], ◌∷◌, Some, None, Ok, Option, refl, subst}
+use Rattle.std.specs.Option.{MatchOption, option_map}
+use Rattle.index.specs.declared.spec.NodeIx.{NodeIx}
 use Rattle.sets.specs.declared.ix_set.IxSet.{IxSet}
-use Rattle.sets.specs.Sets.{member, node_count}
+use Rattle.sets.specs.Sets.{IsSetOf}
 use Rattle.sets.specs.Making.{MakesBy, MakesOf, among, beyond}
-use Rattle.set_clients.specs.Given.{number_or}
 
-pub made_of : {S : Type 0} (nodes : ℕ) (xs ys : List ℕ) (s : IxSet S) → xs ≡ ys → beyond nodes ys ≡ None → MakesOf nodes xs (Ok s)
-    → (node_count s ≡ nodes) × ((n : ℕ) → member s n ≡ among ys n)
+pub made_of : {S : Type 0} (nodes : ℕ) (xs ys : List ℕ) (s : IxSet S) → xs ≡ ys → beyond nodes ys ≡ None → MakesOf nodes xs (Ok s) → IsSetOf (among ys) nodes s
 made_of nodes xs ys s e none m =
     let h : MakesBy (beyond nodes ys) nodes ys (Ok s) = subst (λ zs. MakesOf nodes zs (Ok s)) e m in
     subst (λ o. MakesBy o nodes ys (Ok s)) none h
 
--- a step of a cursor that has this list to give
-pub step_some : {X : Type 0} (l l' : List X) (r : Option X) (x : X) (xs : List X) → l ≡ (x ∷ xs) → Steps l r l' → (r ≡ Some x) × (l' ≡ xs)
-step_some l l' r x xs e h = subst (λ k. Steps k r l') e h
+-- a cursor that had l to give answered r and has l' left
+abbrev pub Gave : {K : Type 0} → List ℕ → Option (NodeIx K) → List ℕ → Type 0
+Gave l r l' = MatchOption r ((l ≡ []) × (l' ≡ [])) (λ ix. l ≡ ix.0 ∷ l')
 
-pub step_none : {X : Type 0} (l l' : List X) (r : Option X) → l ≡ [] → Steps l r l' → r ≡ None
-step_none l l' r e h = (subst (λ k. Steps k r l') e h).0
+pub gave_first : {K : Type 0} (l l' : List ℕ) (r : Option (NodeIx K)) (n : ℕ) (xs : List ℕ) → l ≡ n ∷ xs → Gave l r l' → (option_map (λ ix. ix.0) r ≡ Some n) × (l' ≡ xs)
+gave_first l l' None n xs e h = cc
+gave_first l l' (Some ix) n xs e h = (cc, cc)
 
-pub number_some : (o : Option FeatureIx) (n other : ℕ) → option_map (λ x. x.0) o ≡ Some n → number_or o other ≡ n
-number_some None n other e = let z : ◌≡◌ {A = ℕ} 0 1 = cc in absurd (omega arith)
-number_some (Some ix) n other e = cc
+pub gave_none : {K : Type 0} (l l' : List ℕ) (r : Option (NodeIx K)) → l ≡ [] → Gave l r l' → option_map (λ ix. ix.0) r ≡ None
+gave_none l l' None e h = refl
+gave_none l l' (Some ix) e h = cc
 
-pub number_none : (o : Option FeatureIx) (other : ℕ) → option_map (λ x. x.0) o ≡ None → number_or o other ≡ other
-number_none None other e = refl
-number_none (Some ix) other e = let z : ◌≡◌ {A = ℕ} 0 1 = cc in absurd (omega arith)
-
-pub same_four : (a b c d a' b' c' d' : ℕ) → a ≡ a' → b ≡ b' → c ≡ c' → d ≡ d' → (a ∷ b ∷ c ∷ d ∷ []) ≡ a' ∷ b' ∷ c' ∷ d' ∷ []
+pub same_four : {A : Type 0} (a b c d a' b' c' d' : A) → a ≡ a' → b ≡ b' → c ≡ c' → d ≡ d' → (a ∷ b ∷ c ∷ d ∷ []) ≡ a' ∷ b' ∷ c' ∷ d' ∷ []
 same_four a b c d a' b' c' d' p q r s = cc

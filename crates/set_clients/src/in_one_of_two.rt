@@ -1,6 +1,6 @@
 // Two sets made, combined and listed: what their contracts say is enough to know every member.
-ghost use Rattle.std.specs.Prelude.{◌≡◌, [], ◌∷◌, MatchResult};
-ghost use Rattle.set_clients.specs.Given.{number_or};
+ghost use Rattle.std.specs.Prelude.{◌≡◌, map, [], ◌∷◌, MatchResult};
+ghost use Rattle.std.specs.Option.{option_map};
 ghost use Rattle.sets.specs.declared.make.Unmade.TheVariants.{NoMemory};
 
 use index::spec::{FeatureGraphSpec, FeatureIx, IndexType};
@@ -8,19 +8,9 @@ use sets::ix_set::IxSet;
 use sets::make::Unmade;
 use std::alloc::Global;
 
-// The number of an index, or another.
-fn number_or(ix: Option<FeatureIx>, other: u32) -> u32
-    ensures { result ≡ number_or ix other }
-{
-    match ix {
-        Some(ix) => ix.index(),
-        None => other,
-    }
-}
-
-// How many of 65 nodes are in one of {64, 0, 2} and {2, 3} but not in both; which; and 99, for there is no fourth.
-pub fn in_one_of_two(heap: Global) -> Result<[u32; 5], Unmade>
-    ensures { MatchResult result (λ found. found ≡ 3 ∷ 0 ∷ 3 ∷ 64 ∷ 99 ∷ []) (λ e. e ≡ NoMemory) }
+// How many of 65 nodes are in one of {64, 0, 2} and {2, 3} but not in both, and which: there is no fourth.
+pub fn in_one_of_two(heap: Global) -> Result<(u32, [Option<FeatureIx>; 4]), Unmade>
+    ensures { MatchResult result (λ found. (found.0 ≡ 3) × (map (option_map (λ ix. ix.0)) found.1 ≡ Some 0 ∷ Some 3 ∷ Some 64 ∷ None ∷ [])) (λ e. e ≡ NoMemory) }
 {
     let given = [
         FeatureIx::new(64),
@@ -33,9 +23,6 @@ pub fn in_one_of_two(heap: Global) -> Result<[u32; 5], Unmade>
     let right = IxSet::from_ixs(heap, FeatureGraphSpec, 65, &others)?;
     left.symmetric_difference_with(&right);
     let mut ones = left.ones();
-    let first = number_or(ones.next(), 99);
-    let second = number_or(ones.next(), 99);
-    let third = number_or(ones.next(), 99);
-    let fourth = number_or(ones.next(), 99);
-    Ok([left.len(), first, second, third, fourth])
+    let found = [ones.next(), ones.next(), ones.next(), ones.next()];
+    Ok((left.len(), found))
 }

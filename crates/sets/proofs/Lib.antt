@@ -1,1 +1,5 @@
-pub mod Failing
+pub mod Positions
+pub mod Given
+pub mod Mixing
+pub mod Comparing
+pub mod Skipping

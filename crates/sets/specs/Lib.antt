@@ -1,5 +1,5 @@
-pub mod Operations
 pub mod Sets
+pub mod Stepping
 pub mod Making
 pub mod Combining
 pub mod Ones

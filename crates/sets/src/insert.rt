@@ -1,6 +1,6 @@
 // A set asked about a node, and changed by one node or all.
-ghost use Rattle.std.specs.Prelude.{◌≡◌, ℕ, false, not, ◌&&◌, ◌||◌, length, ◌==◌, nat_lt};
-ghost use Rattle.sets.specs.Sets.{member, members as members_of, node_count};
+ghost use Rattle.std.specs.Prelude.{◌≡◌, ℕ, true, false, not, ◌&&◌, ◌||◌, length, ◌==◌, nat_lt};
+ghost use Rattle.sets.specs.Sets.{member, members as members_of, node_count, IsSetOf, BecomesSetOf};
 
 use crate::ix_set::IxSet;
 use index::spec::{GraphSpec, IndexType};
@@ -36,38 +36,32 @@ impl<S: GraphSpec> IxSet<S> {
 
     // Makes a node a member, and says whether it is one that was none before. An index beyond the graph changes nothing.
     pub fn insert(&mut self, ix: S::Ix) -> bool
-        ensures new { result ≡ (nat_lt (S.Ix.IndexType.number ix) (node_count self.old) && not (member self.old (S.Ix.IndexType.number ix))) }
-        ensures nodes { node_count self.new ≡ node_count self.old }
-        ensures members { (n : ℕ) → member self.new n ≡ (member self.old n || (n == S.Ix.IndexType.number ix && nat_lt (S.Ix.IndexType.number ix) (node_count self.old))) }
+        ensures new { let number = S.Ix.IndexType.number ix in
+            result ≡ (nat_lt number (node_count self.old) && not (member self.old number)) }
+        ensures set { let number = S.Ix.IndexType.number ix in
+            let members = λ (n : ℕ). member self.old n || (n == number && nat_lt number (node_count self.old)) in
+            IsSetOf members (node_count self.old) self.new }
     {
         let n = ix.index();
         if n >= self.nodes || self.contains(ix) {
             return false;
         }
-        let i = n as usize / 64;
-        let word = self.words[i];
-        self.words[i] = word | 1 << (n % 64);
+        self.words[n as usize / 64] |= 1 << (n % 64);
         self.count += 1;
         true
     }
 
     // No member.
     pub fn clear(&mut self)
-        ensures nodes { node_count self.new ≡ node_count self.old }
-        ensures members { (n : ℕ) → member self.new n ≡ false }
+        ensures { BecomesSetOf (λ _. false) self.old self.new }
     {
-        for i in 0..self.word_count() {
-            self.put_word(i, 0);
-        }
+        self.change_words(|_, _| 0);
     }
 
     // Every node.
     pub fn fill(&mut self)
-        ensures nodes { node_count self.new ≡ node_count self.old }
-        ensures members { (n : ℕ) → member self.new n ≡ nat_lt n (node_count self.old) }
+        ensures { BecomesSetOf (λ _. true) self.old self.new }
     {
-        for i in 0..self.word_count() {
-            self.put_word(i, u64::MAX);
-        }
+        self.change_words(|_, _| u64::MAX);
     }
 }

@@ -1,15 +1,14 @@
 // The members of a set, ascending. A word that has no member is passed over whole, and the next member of a word is found
 // by its trailing zeros.
-ghost use Rattle.std.specs.Prelude.{◌≡◌, length};
-ghost use Rattle.std.specs.Option.{option_map};
-ghost use Rattle.theory.specs.Graphs.{Steps};
+ghost use Rattle.std.specs.Prelude.{◌≡◌, [], length, MatchOption};
+ghost use Rattle.std.specs.Iterator.{YieldsFirstBy, item_count};
 ghost use Rattle.bits.specs.Bits.{Lists};
 ghost use Rattle.sets.specs.Sets.{member, members as members_of};
-ghost use Rattle.sets.specs.Ones.{rest};
-ghost use Rattle.std.specs.Iterator.{at_most};
+ghost use Rattle.sets.specs.Ones.{rest, IsAhead};
 
 use crate::ix_set::IxSet;
 use crate::ones::IxOnes;
+use crate::words::first_nonzero;
 use index::spec::{GraphSpec, IndexType};
 
 impl<S: GraphSpec> IxSet<S> {
@@ -34,25 +33,30 @@ impl<'a, S: GraphSpec> IxOnes<'a, S> {
     {
         self.remaining // one less with every member given
     }
+
+    // The word of the next member, and which members of that word are still to give.
+    fn ahead(&self) -> Option<(usize, u64)>
+        ensures { MatchOption result (rest self.now ≡ []) (λ word. IsAhead self.now word.0 word.1) }
+    {
+        if self.bits != 0 {
+            return Some((self.row, self.bits));
+        }
+        let next = self.row + 1;
+        let words = self.set.words.get(next..)?;
+        let empty = first_nonzero(words)?;
+        Some((next + empty, words[empty]))
+    }
 }
 
 impl<'a, S: GraphSpec> Iterator for IxOnes<'a, S> {
     type Item = S::Ix;
 
-    ghost next_gives = { λ s r t. Steps (rest s) (option_map S.Ix.IndexType.number r) (rest t) };
+    ghost next_gives = { YieldsFirstBy S.Ix.IndexType.number rest };
 
-    ghost remaining = { λ s. at_most (length (rest s)) };
+    ghost remaining = { item_count rest };
 
     fn next(&mut self) -> Option<S::Ix> {
-        let mut row = self.row;
-        let mut bits = self.bits;
-        while bits == 0 {
-            if row >= self.set.word_count() {
-                return None;
-            }
-            row += 1;
-            bits = self.set.word(row);
-        }
+        let (row, bits) = self.ahead()?;
         let k = bits.trailing_zeros();
         self.row = row;
         self.bits = bits ^ 1 << k;

@@ -13,6 +13,7 @@ pub struct IxOnes<'a, S> {
     pub(crate) row: usize,
     pub(crate) bits: u64,
     pub(crate) remaining: u32,
+    ghost at: { row ≤ set.now.nodes },
     ghost within: { (n : ℕ) → set.now.nodes ≤ n → pending (member set.now) row bits n ≡ false },
     ghost counted: { remaining ≡ how_many (pending (member set.now) row bits) set.now.nodes },
 }

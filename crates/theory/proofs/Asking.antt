@@ -1,5 +1,5 @@
 -- What stands on the stack, and what is held, once edges were handed out and the rule was asked about a list of edges. Assumes nothing.
-use Rattle.std.proofs.Common.{◌≡◌, ℕ, ◌+◌, ◌≤◌, Bool, true, false, cond, ◌⊎◌, List, [], ◌∷◌, ◌++◌, length, Some, None, filter, Option, sym, refl, ap, ◌∙◌, subst, inl, inr, ⊎_elim, true≢false, arith, length-append}
+use Rattle.std.proofs.Common.{◌≡◌, ℕ, ◌+◌, ◌≤◌, Bool, true, false, cond, ◌⊎◌, List, [], ◌∷◌, ◌++◌, length, Some, None, filter, Option, sym, refl, ap, ◌∙◌, subst, inl, inr, ⊎_elim, arith, length-append}
 use Rattle.std.proofs.Math.Logic.{⊎_map}
 use Rattle.std.proofs.lemmas.Bool.{cond_both, or_cases, or_left, or_right, eqb-true, eq-eqb}
 use Rattle.std.proofs.lemmas.List.Filters.{length-filter_both}
@@ -11,11 +11,11 @@ use Rattle.theory.proofs.Kept.{in_kept, kept_in, kept_all}
 use Rattle.theory.proofs.Reaching.{in_cases, in_left, in_right}
 
 told_some : (d : ℕ → Bool) (o : Option ℕ) → was_told d o ≡ true → (w : ℕ) × (o ≡ Some w) × (d w ≡ true)
-told_some d None t = absurd (true≢false (sym t))
+told_some d None t = cc
 told_some d (Some w) t = (w, refl, t)
 
 is_node_lem : (o : Option ℕ) (n : ℕ) → is_node n o ≡ true → o ≡ Some n
-is_node_lem None n t = absurd (true≢false (sym t))
+is_node_lem None n t = cc
 is_node_lem (Some w) n t = ap Some (eqb-true w n t)
 
 node_is : (o : Option ℕ) (n : ℕ) → o ≡ Some n → is_node n o ≡ true

@@ -1,10 +1,10 @@
 -- Chains of links, and the lists that they stand for: a link that tells the latest item stays right as an item is added,
 -- and a walk along the links gives just the items with the key, the latest first. Assumes nothing.
-use Rattle.std.proofs.Common.{◌≡◌, ℕ, zero, suc, ◌+◌, ◌-◌, ◌<◌, ◌≤◌, eqb, leb, [], ◌∷◌, Some, sym, refl, ap, ◌∙◌, subst, inl, inr, add-one, sub-one, arith}
+use Rattle.std.proofs.Common.{◌≡◌, ℕ, zero, suc, ◌+◌, ◌-◌, ◌<◌, ◌≤◌, eqb, ◌∷◌, Some, sym, refl, ap, ◌∙◌, inl, inr, add-one, sub-one, arith}
 use native.Mathlib.Bridge.{le_prop}
 use native.Mathlib.Nat.{ℕ_set}
 use std.HLevel.{Π_prop}
-use Rattle.std.proofs.lemmas.Bool.{cond-true, eqb-true, ne_eqb, eq-eqb, cases_lt, le-leb}
+use Rattle.std.proofs.lemmas.Bool.{eqb-true, ne_eqb, eq-eqb, cases_lt, le-leb}
 use Rattle.theory.specs.Edges.{Edge, In, Once}
 use Rattle.theory.specs.Graphs.{Steps}
 use Rattle.theory.specs.Chains.{newest, keyed, Last, from}
@@ -38,14 +38,10 @@ module _ (f g : ℕ → ℕ) (e : ℕ) (agree : (j : ℕ) → j < e → g j ≡ 
   head_new n q = (omega arith, λ j low high _. omega arith, λ _. let same : e + 1 - 1 ≡ e = omega arith in ap g same ∙ q)
 
   pub link_old : (k : ℕ) → k < e → (h i : ℕ) → i ≡ h → Last f k (f k) h → Last g k (g k) i
-  link_old k b h i q l =
-      let m = last_same k (omega arith) (f k) h l in
-      subst (λ n. Last g k n i) (sym (agree k b)) (subst (λ x. Last g k (f k) x) (sym q) m)
+  link_old k b h i q l = rw (agree k b, q) (last_same k (omega arith) (f k) h l)
 
   pub link_new : (n h i : ℕ) → g e ≡ n → i ≡ h → Last f e n h → Last g e (g e) i
-  link_new n h i p q l =
-      let m = last_same e (omega arith) n h l in
-      subst (λ x. Last g e x i) (sym p) (subst (λ x. Last g e n x) (sym q) m)
+  link_new n h i p q l = rw (p, q) (last_same e (omega arith) n h l)
 
 -- items that agree below k are listed alike
 pub newest_same : {X : Type 0} (at bt : ℕ → X) (k : ℕ) → ((j : ℕ) → j < k → bt j ≡ at j) → newest bt k ≡ newest at k
@@ -101,9 +97,8 @@ module _ {X : Type 0} (key : X → ℕ) (at : ℕ → X) where
   -- a link to an item, and then what the item's own link stands for
   from_suc : (count k : ℕ) → k < count → from key at count (suc k) ≡ at k ∷ keyed key at k (key (at k))
   from_suc count k b =
-      cond-true (leb (suc k) count) (keyed key at (suc k) (key (at (suc k - 1)))) [] (le-leb (suc k) count (omega arith))
-      ∙ ap (λ x. keyed key at (suc k) (key (at x))) (sub-one (suc k))
-      ∙ cond-true (eqb (key (at k)) (key (at k))) (at k ∷ keyed key at k (key (at k))) (keyed key at k (key (at k))) (eq-eqb (key (at k)) (key (at k)) refl)
+      let own : keyed key at (suc k) (key (at k)) ≡ at k ∷ keyed key at k (key (at k)) = rw (eq-eqb (key (at k)) (key (at k)) refl) in
+      rw (le-leb (suc k) count (omega arith)) (ap (λ x. keyed key at (suc k) (key (at x))) (sub-one (suc k)) ∙ own)
 
   -- one step along the links
   pub link_step : (count a h : ℕ) → 0 < a → a ≤ count → Last (λ j. key (at j)) (a - 1) (key (at (a - 1))) h → Steps (from key at count a) (Some (at (a - 1))) (from key at count h)
@@ -112,7 +107,7 @@ module _ {X : Type 0} (key : X → ℕ) (at : ℕ → X) where
       let m : a - 1 < count = omega arith in
       let start : from key at count a ≡ at (a - 1) ∷ keyed key at (a - 1) (key (at (a - 1))) = ap (from key at count) q ∙ from_suc count (a - 1) m in
       let end : from key at count h ≡ keyed key at (a - 1) (key (at (a - 1))) = from_last count (a - 1) (key (at (a - 1))) h (omega arith) l in
-      subst (λ xs. Steps xs (Some (at (a - 1))) (from key at count h)) (sym start) (refl, end)
+      rw start (refl, end)
 
 -- numbered edges are listed once
 pub once_keyed : {W : Type 0} (key : Edge W → ℕ) (at : ℕ → Edge W) → ((j : ℕ) → (at j).number ≡ j) → (k n : ℕ) → Once (keyed key at k n)

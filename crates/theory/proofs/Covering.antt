@@ -1,5 +1,5 @@
 -- Of a set that has its components whole every node is reached from a root along inside edges, so every inside edge is shown. Assumes nothing.
-use Rattle.std.proofs.Common.{◌≡◌, ℕ, zero, suc, ◌-◌, ◌<◌, ◌≤◌, Bool, true, false, ◌⊎◌, List, [], ◌∷◌, ◌++◌, map, length, sym, refl, ap, ◌∙◌, subst, inl, inr, ⊎_elim, arith}
+use Rattle.std.proofs.Common.{◌≡◌, ℕ, zero, suc, ◌-◌, ◌<◌, ◌≤◌, Bool, true, false, ◌⊎◌, List, [], ◌∷◌, ◌++◌, map, length, sym, refl, ap, ◌∙◌, inl, inr, ⊎_elim, arith}
 use Rattle.std.proofs.lemmas.Bool.{cases_Bool, and_parts, and_from}
 use Rattle.theory.specs.Components.{Classes, Components, Onward, components, flat}
 use Rattle.theory.specs.Edges.{Edge, In, within, Distinct}
@@ -8,7 +8,7 @@ use Rattle.theory.specs.Listings.{Behind, Direction, Forward, Link, LinksShowAll
 use Rattle.theory.specs.PostOrder.{in?}
 use Rattle.theory.specs.Reach.{Leads, Reach, Same, here, more, sources, targets}
 use Rattle.theory.proofs.Following.{near_at, near_below}
-use Rattle.theory.proofs.Grounds.{components_of_graph, source_inside, sources_turned, target_in}
+use Rattle.theory.proofs.Grounds.{components_of_graph, leads_on, source_inside, sources_turned}
 use Rattle.theory.proofs.Kept.{in_kept, kept_in}
 use Rattle.theory.proofs.Linking.{links_show_what_roots_reach}
 use Rattle.theory.proofs.Reaching.{in_cases, in_cast, in_left, in_map, in_right, reach_one, reach_trans, reach_turn, same_sym, same_trans}
@@ -97,8 +97,7 @@ module _ (W : Type 0) (node : ℕ → Bool) (bound edges : ℕ) (outs ins : ℕ 
 
   rank_edge : (n : ℕ) (e : Edge W) → In e (outs n) → (Same (targets outs) e.source e.target → ⊥) → rank groups e.source < rank groups e.target
   rank_edge n e i m =
-      let there = subst (λ z. In e (outs z)) (sym (s.source n e i)) i in
-      rank_falls (targets outs) groups right.classes right.onward right.once e.source e.target (right.all e.source (source_inside s n e i)) (target_in s e.source e there) m
+      rank_falls (targets outs) groups right.classes right.onward right.once e.source e.target (right.all e.source (source_inside s n e i)) (leads_on s n e i) m
 
   height_falls : (d : Direction) (a : ℕ) (e : Edge W) → In e (followed d outs ins a) → (Same (targets outs) (near d e) (far d e) → ⊥) → height d (near d e) < height d (far d e)
   height_falls Forward a e i m = rank_edge a e i m

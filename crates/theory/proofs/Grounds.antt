@@ -12,6 +12,10 @@ module _ {W : Type 0} {node : ℕ → Bool} {bound edges : ℕ} {outs : ℕ → 
   pub target_in : (u : ℕ) (e : Edge W) → In e (outs u) → In e.target (targets outs u)
   target_in u e i = map_in (λ e. e.target) (outs u) e i
 
+  -- an edge leads from its source to its target
+  pub leads_on : (u : ℕ) (e : Edge W) → In e (outs u) → In e.target (targets outs e.source)
+  leads_on u e i = target_in e.source e (subst (λ z. In e (outs z)) (sym (s.source u e i)) i)
+
   pub targets_inside : Inside bound (targets outs)
   targets_inside u w i =
       let e = in_map (λ e. e.target) (outs u) w i in

@@ -8,7 +8,7 @@ use Rattle.theory.specs.Graphs.{Sound, Tied}
 use Rattle.theory.specs.Listings.{Direction, Forward, Order, OrderRunsOnward, Reverse, order}
 use Rattle.theory.specs.PostOrder.{Before, PostOrderSorts}
 use Rattle.theory.specs.Reach.{Same, sources, targets}
-use Rattle.theory.proofs.Grounds.{components_of_graph, source_inside, target_in}
+use Rattle.theory.proofs.Grounds.{components_of_graph, leads_on, source_inside}
 use Rattle.theory.proofs.Kept.{filter_keeps, in_kept, kept_in}
 use Rattle.theory.proofs.Reaching.{in_cases, in_cast, in_reverse, in_right, reach_one, reverse_distinct, reverse_in, same_sym, same_trans}
 
@@ -50,8 +50,7 @@ forward out u w e n (g ∷ gs) c o i = go (forward out u w e n gs c.1 o.1) (in_c
 pub edges_run_onward : (W : Type 0) → EdgesRunOnward W
 edges_run_onward W node bound edges outs ins s t n e i m =
     let c = components_of_graph W node bound edges outs ins s t in
-    let there = subst (λ z. In e (outs z)) (sym (s.source n e i)) i in
-    forward (targets outs) e.source e.target (target_in s e.source e there) m (components (targets outs) (sources ins) bound) c.classes c.onward (c.all e.source (source_inside s n e i))
+    forward (targets outs) e.source e.target (leads_on s n e i) m (components (targets outs) (sources ins) bound) c.classes c.onward (c.all e.source (source_inside s n e i))
 
 pub post_order_sorts : PostOrderSorts
 post_order_sorts out [] g a u w i e n = absurd i

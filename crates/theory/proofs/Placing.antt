@@ -1,10 +1,9 @@
 -- Where a pair stands among listed ones, and what a list that grows by one keeps. Assumes nothing.
 use Rattle.std.proofs.Common.{◌≡◌, ℕ, zero, suc, ◌+◌, ◌<◌, ◌≤◌, Bool, true, false, cond, not, eqb, ltb, List, [], ◌∷◌, ◌++◌, map, get_or, length, Some, None, Option, sym, refl, ap, ap₂, ◌∙◌, inl, inr, add-one, one-add, arith}
 use Rattle.std.specs.Option.{option_map}
-use Rattle.std.specs.List.{position, position_or_len, range_with_len, slice_get}
+use Rattle.std.specs.List.{position, position_or_len, range_with_len}
 use Rattle.std.proofs.lemmas.List.FromFn.{get_or-map-range_with_len, length-map-range_with_len, map-range_with_len_more}
 use Rattle.std.proofs.lemmas.List.Sums.{fails_before_first, position_or_len_is}
-use Rattle.std.proofs.lemmas.Option.{slice_get_read}
 use Rattle.std.proofs.lemmas.Bool.{cond_above, cond_below, eqb-false, ne_eqb, eq-eqb, cases_lt, lt-ltb, le-ltb}
 use Rattle.theory.specs.Pairs.{Pair, listed, place}
 
@@ -19,9 +18,6 @@ length-listed at k = ap length (listed_is at k) ∙ length-map-range_with_len at
 
 get_listed : {X : Type 0} (at : ℕ → X) (k i : ℕ) (d : X) → i < k → get_or (listed at k) i d ≡ at i
 get_listed at k i d b = ap (λ xs. get_or xs i d) (listed_is at k) ∙ get_or-map-range_with_len at 0 k i i d b (omega arith)
-
-pub nth_listed : {X : Type 0} (at : ℕ → X) (k i : ℕ) → i < k → slice_get (listed at k) i ≡ Some (at i)
-nth_listed at k i b = slice_get_read (listed at k) k i (at i) (sym (length-listed at k)) b (sym (get_listed at k i (at i) b))
 
 pub listed_same : {X : Type 0} (at bt : ℕ → X) (k : ℕ) → ((j : ℕ) → j < k → bt j ≡ at j) → listed bt k ≡ listed at k
 listed_same at bt zero eq = refl

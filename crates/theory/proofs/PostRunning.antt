@@ -8,7 +8,7 @@ use Rattle.theory.proofs.Machines.{all_keep, comes_to_end}
 use Rattle.theory.proofs.Pushing.{adds, fresh_length, pushed, weight_falls}
 use Rattle.theory.proofs.Reaching.{in_cases, in_right, popped}
 use Rattle.theory.proofs.Steps.{Empty, run_machine, step_stays}
-use Rattle.theory.proofs.PostWalking.{Walk, discover, finish, skip, top}
+use Rattle.theory.proofs.PostWalking.{Top, Walk, discover, finish, skip, top}
 
 -- a statement on states that every visit keeps is kept by a run
 pub run_keeps : (out : ℕ → List ℕ) (P : (s d f : List ℕ) → Type 0)
@@ -52,6 +52,24 @@ module _ (out : ℕ → List ℕ) (n : ℕ) (inside : Inside n out) where
       (comes_to_end (run_machine out) Empty (step_stays out) (λ x. Nodes n x.stack) (λ x. length x.stack + weight out n x.disc)
       (λ x. step_falls x.stack x.disc x.fin) k (record { stack = s; disc = d; fin = f }) h m).0
 
+-- each visit keeps a walk, and what was stacked stays discovered or stacked
+module _ (out : ℕ → List ℕ) (old : ℕ → Type 0) where
+  abbrev pub Walking : (s d f : List ℕ) → Type 0
+  Walking s d f = (p : List ℕ) × Walk out old (λ x. In x d) s f p
+
+  pub top_of : (v : ℕ) (s d f : List ℕ) (w : Walking (v ∷ s) d f) → In v d → (In v f → ⊥) → (q : List ℕ) × Top out old s v w.0 q
+  top_of v s d f w i n = top out old s v w.0 w.1.lay (⊎_elim (λ k. absurd (n k)) (λ k. k) (w.1.grey v i))
+
+  pub visit_walk : (v : ℕ) (s d f : List ℕ) (a : Dec (In v d)) (b : Dec (In v f)) → Walking (v ∷ s) d f → let x = visit out v s d f a b in Walking x.stack x.disc x.fin
+  visit_walk v s d f (no m) b w = (v ∷ w.0, discover out old (λ x. In x d) (λ x. In x (v ∷ d)) v s f w.0 (fresh (v ∷ d) (out v)) w.1 m (adds d v) (pushed out d v))
+  visit_walk v s d f (yes i) (yes j) w = (w.0, skip out old (λ x. In x d) v s f w.0 w.1 j)
+  visit_walk v s d f (yes i) (no n) w = let q = top_of v s d f w i n in (q.0, finish out old (λ x. In x d) v s f w.0 q.0 w.1 i n q.1)
+
+  pub visit_begun : (x v : ℕ) (s d f : List ℕ) (a : Dec (In v d)) (b : Dec (In v f)) → In x d ⊎ In x (v ∷ s) → let y = visit out v s d f a b in In x y.disc ⊎ In x y.stack
+  visit_begun x v s d f (no m) b = ⊎_map (λ i. inr i) (λ i. in_right x (fresh (v ∷ d) (out v)) (v ∷ s) i)
+  visit_begun x v s d f (yes i) (yes j) = popped (λ z. In z d) s i
+  visit_begun x v s d f (yes i) (no n) = popped (λ z. In z d) s i
+
 -- what a run keeps: nothing but what is old or reached is discovered or stacked
 pub record Reached (out : ℕ → List ℕ) (old : ℕ → Type 0) (s0 s d : List ℕ) : Type 0 where
   pub found : (x : ℕ) → In x d → old x ⊎ Via out old s0 x
@@ -65,32 +83,23 @@ module _ (out : ℕ → List ℕ) (old : ℕ → Type 0) (s0 : List ℕ) where
   via_more u w (inr v) n e m = (v.0, v.1, v.2, more v.3 (e, m))
 
   abbrev pub State-keeps : (s d f : List ℕ) → Type 0
-  State-keeps s d f = ((p : List ℕ) × Walk out old (λ x. In x d) s f p) × Reached out old s0 s d
+  State-keeps s d f = Walking out old s d f × Reached out old s0 s d
 
-  reached_pop : (v : ℕ) (s d : List ℕ) → Reached out old s0 (v ∷ s) d → In v d → Reached out old s0 s d
-  reached_pop v s d h i = record {
-    found = h.found;
-    aimed = λ x j. h.aimed x (inr j);
-    kept = h.kept;
-    begun = λ x j. popped (λ z. In z d) s i (h.begun x j);
-  }
-
-  pub visit_keeps : (v : ℕ) (s d f : List ℕ) (a : Dec (In v d)) (b : Dec (In v f)) → State-keeps (v ∷ s) d f → State-keeps (visit out v s d f a b).stack (visit out v s d f a b).disc (visit out v s d f a b).fin
-  visit_keeps v s d f (no m) b (w, h) =
+  visit_reaches : (v : ℕ) (s d f : List ℕ) (a : Dec (In v d)) (b : Dec (In v f)) → Reached out old s0 (v ∷ s) d → let x = visit out v s d f a b in Reached out old s0 x.stack x.disc
+  visit_reaches v s d f (no m) b h =
       let new : old v → ⊥ = λ o. m (h.kept v o) in
-      let l = fresh (v ∷ d) (out v) in (
-        (v ∷ w.0, discover out old (λ x. In x d) (λ x. In x (v ∷ d)) v s f w.0 l w.1 m (adds d v) (pushed out d v)),
-        record {
-          found = λ x. ⊎_elim (λ e. subst (λ z. old z ⊎ Via out old s0 z) (sym e) (h.aimed v (inl refl))) (h.found x);
-          aimed = λ x i. ⊎_elim
-              (λ j. inr (via_more v x (h.aimed v (inl refl)) new ((pushed out d v).target x j) (λ o. (pushed out d v).white x j (inr (h.kept x o)))))
-              (h.aimed x)
-              (in_cases x l (v ∷ s) i);
-          kept = λ x o. inr (h.kept x o);
-          begun = λ x i. ⊎_map (λ j. inr j) (λ j. in_right x l (v ∷ s) j) (h.begun x i);
-        },
-      )
-  visit_keeps v s d f (yes i) (yes j) (w, h) = ((w.0, skip out old (λ x. In x d) v s f w.0 w.1 j), reached_pop v s d h i)
-  visit_keeps v s d f (yes i) (no j) (w, h) =
-      let q = top out old s v w.0 w.1.lay (⊎_elim (λ k. absurd (j k)) (λ k. k) (w.1.grey v i)) in
-      ((q.0, finish out old (λ x. In x d) v s f w.0 q.0 w.1 i j q.1), reached_pop v s d h i)
+      let l = fresh (v ∷ d) (out v) in
+      record {
+        found = λ x. ⊎_elim (λ e. subst (λ z. old z ⊎ Via out old s0 z) (sym e) (h.aimed v (inl refl))) (h.found x);
+        aimed = λ x i. ⊎_elim
+            (λ j. inr (via_more v x (h.aimed v (inl refl)) new ((pushed out d v).target x j) (λ o. (pushed out d v).white x j (inr (h.kept x o)))))
+            (h.aimed x)
+            (in_cases x l (v ∷ s) i);
+        kept = λ x o. inr (h.kept x o);
+        begun = λ x i. visit_begun out old x v s d f (no m) b (h.begun x i);
+      }
+  visit_reaches v s d f (yes i) (yes j) h = record { found = h.found; aimed = λ x k. h.aimed x (inr k); kept = h.kept; begun = λ x k. visit_begun out old x v s d f (yes i) (yes j) (h.begun x k) }
+  visit_reaches v s d f (yes i) (no n) h = record { found = h.found; aimed = λ x k. h.aimed x (inr k); kept = h.kept; begun = λ x k. visit_begun out old x v s d f (yes i) (no n) (h.begun x k) }
+
+  pub visit_keeps : (v : ℕ) (s d f : List ℕ) (a : Dec (In v d)) (b : Dec (In v f)) → State-keeps (v ∷ s) d f → let x = visit out v s d f a b in State-keeps x.stack x.disc x.fin
+  visit_keeps v s d f a b (w, h) = (visit_walk out old v s d f a b w, visit_reaches v s d f a b h)

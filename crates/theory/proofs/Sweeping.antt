@@ -1,15 +1,14 @@
 -- The sweep from each node below the count finishes each once, in post-order. Assumes nothing.
 use Rattle.std.proofs.Common.{◌≡◌, ℕ, zero, suc, ◌<◌, ◌≤◌, ◌⊎◌, List, [], ◌∷◌, ◌++◌, sym, refl, subst, inl, inr, ⊎_elim, arith}
-use Rattle.std.proofs.Math.Logic.{⊎_map}
 use native.Mathlib.Decide.{ℕ_discrete}
 use Rattle.theory.specs.Edges.{In, Distinct}
-use Rattle.theory.specs.PostOrder.{Post, SweepFinishesInPostOrder, below, fresh, fuel, in?, run, sweep, visit, walk_from}
+use Rattle.theory.specs.PostOrder.{Post, SweepFinishesInPostOrder, below, fuel, in?, run, sweep, visit, walk_from}
 use Rattle.theory.specs.Reach.{Inside}
 use Rattle.theory.proofs.Finishing.{post_step}
-use Rattle.theory.proofs.Pushing.{adds, pushed, weight_most}
-use Rattle.theory.proofs.Reaching.{in_cases, in_cast, in_left, in_right, popped}
-use Rattle.theory.proofs.PostRunning.{fresh_nodes, one_node, run_ends, run_keeps}
-use Rattle.theory.proofs.PostWalking.{Told, Walk, discover, finish, skip, top}
+use Rattle.theory.proofs.Pushing.{weight_most}
+use Rattle.theory.proofs.Reaching.{in_cases, in_cast, in_left, in_right}
+use Rattle.theory.proofs.PostRunning.{Walking, fresh_nodes, one_node, run_ends, run_keeps, top_of, visit_begun, visit_walk}
+use Rattle.theory.proofs.PostWalking.{Told}
 use Rattle.theory.proofs.PostEnding.{walk_end, walk_start}
 
 abbrev nobody : ℕ → Type 0
@@ -17,7 +16,7 @@ nobody x = ⊥
 
 -- a walk from i, with f0 finished before
 record Trip (out : ℕ → List ℕ) (n : ℕ) (f0 : List ℕ) (i : ℕ) (s d f : List ℕ) : Type 0 where
-  walk : (p : List ℕ) × Walk out nobody (λ x. In x d) s f p
+  walk : Walking out nobody s d f
   post : Post out f
   keep : (y : ℕ) → In y f0 → In y f
   begun : In i d ⊎ In i s
@@ -55,31 +54,29 @@ below_in (suc n) x h = go (below_in n x) (in_cases x (below n) (n ∷ []) h)
 module _ (out : ℕ → List ℕ) (n : ℕ) (inside : Inside n out) where
   visit_trip : (f0 : List ℕ) (i : ℕ) (v : ℕ) (s d f : List ℕ) (a : Dec (In v d)) (b : Dec (In v f)) → Trip out n f0 i (v ∷ s) d f → Trip out n f0 i (visit out v s d f a b).stack (visit out v s d f a b).disc (visit out v s d f a b).fin
   visit_trip f0 i v s d f (no m) b h =
-      let l = fresh (v ∷ d) (out v) in
       record {
-        walk = (v ∷ h.walk.0, discover out nobody (λ x. In x d) (λ x. In x (v ∷ d)) v s f h.walk.0 l h.walk.1 m (adds d v) (pushed out d v));
+        walk = visit_walk out nobody v s d f (no m) b h.walk;
         post = h.post;
         keep = h.keep;
-        begun = ⊎_map (λ j. inr j) (λ j. in_right i l (v ∷ s) j) h.begun;
+        begun = visit_begun out nobody i v s d f (no m) b h.begun;
         stacked = fresh_nodes out n inside d v (v ∷ s) h.stacked;
         nodes = h.nodes;
       }
   visit_trip f0 i v s d f (yes j) (yes k) h = record {
-    walk = (h.walk.0, skip out nobody (λ x. In x d) v s f h.walk.0 h.walk.1 k);
+    walk = visit_walk out nobody v s d f (yes j) (yes k) h.walk;
     post = h.post;
     keep = h.keep;
-    begun = popped (λ z. In z d) s j h.begun;
+    begun = visit_begun out nobody i v s d f (yes j) (yes k) h.begun;
     stacked = λ y a. h.stacked y (inr a);
     nodes = h.nodes;
   }
   visit_trip f0 i v s d f (yes j) (no k) h =
-      let w = h.walk.1 in
-      let q = top out nobody s v h.walk.0 w.lay (⊎_elim (λ a. absurd (k a)) (λ a. a) (w.grey v j)) in
+      let q = top_of out nobody v s d f h.walk j k in
       record {
-        walk = (q.0, finish out nobody (λ x. In x d) v s f h.walk.0 q.0 w j k q.1);
-        post = post_step out nobody (λ x. In x d) (λ x z. z) v s f h.walk.0 q.0 w j k q.1 h.post;
+        walk = visit_walk out nobody v s d f (yes j) (no k) h.walk;
+        post = post_step out nobody (λ x. In x d) (λ x z. z) v s f h.walk.0 q.0 h.walk.1 j k q.1 h.post;
         keep = λ y a. inr (h.keep y a);
-        begun = popped (λ z. In z d) s j h.begun;
+        begun = visit_begun out nobody i v s d f (yes j) (no k) h.begun;
         stacked = λ y a. h.stacked y (inr a);
         nodes = λ y. ⊎_elim (λ e. subst (λ z. z < n) (sym e) (h.stacked v (inl refl))) (h.nodes y);
       }

@@ -1,8 +1,8 @@
 -- A search along a bucket's chain finds the pair of a package edge or shows that there is none, and the tables keep
 -- their chains as a pair is added. Assumes nothing.
-use Rattle.std.proofs.Common.{◌≡◌, ℕ, ◌+◌, ◌%◌, ◌<◌, ◌≤◌, List, [], ◌∷◌, ◌++◌, length, get_or, set, replicate, Some, None, Option, refl, sym, ap, ◌∙◌, subst, inl, inr, arith, get_or-set_other, get_or-set_same, length-set, below_more}
+use Rattle.std.proofs.Common.{rules, ◌≡◌, ℕ, ◌+◌, ◌%◌, ◌<◌, List, [], ◌∷◌, ◌++◌, length, get_or, set, replicate, Some, None, Option, refl, sym, ap, ◌∙◌, subst, inl, inr, arith, get_or-set_other, get_or-set_same, length-set, below_more}
 use Rattle.std.proofs.lemmas.List.{length-replicate, get_or_append_left, get_or_push, length_push, get_or-replicate}
-use Rattle.std.proofs.lemmas.Bool.{cases_lt, cases_eq}
+use Rattle.std.proofs.lemmas.Bool.{cases_eq}
 use Rattle.theory.specs.Limits.{weak_limit}
 use Rattle.theory.specs.Pairs.{listed, place}
 use Rattle.theory.proofs.Placing.{length-listed, place_none, place_some, listed_more}
@@ -15,19 +15,13 @@ length-pairs entries releases = length-listed (pair_at entries releases) (length
 -- keys that agree below k have the same last places there
 module _ (f g : ℕ → ℕ) (k : ℕ) (agree : (j : ℕ) → j < k → g j ≡ f j) (n : ℕ) where
   last_same : (o : Option ℕ) → LastPlace f k n o → LastPlace g k n o
-  last_same None l = λ j less q. l j less (sym (agree j less) ∙ q)
-  last_same (Some i) l = (l.0, agree i l.0 ∙ l.1, λ j more less q. l.2 j more less (sym (agree j less) ∙ q))
+  last_same None l = grind (arith, agree, l)
+  last_same (Some i) l = grind (arith, agree, l)
 
   -- an item with another key leaves the last place
   last_other : (g k ≡ n → ⊥) → (o : Option ℕ) → LastPlace f k n o → LastPlace g (k + 1) n o
-  last_other ne None l = below_more (λ j. g j ≡ n → ⊥) k (last_same None l) ne
-  last_other ne (Some i) l =
-      let m = last_same (Some i) l in
-      let less : i < k = l.0 in (
-        omega arith,
-        m.1,
-        λ j after. λ below. below_more (λ j. i < j → g j ≡ n → ⊥) k (λ j b a. m.2 j a b) (λ _. ne) j below after,
-      )
+  last_other ne None l = grind (arith, agree, l)
+  last_other ne (Some i) l = grind (arith, agree, l)
 
 -- no pair yet, and no heads
 pub empty_hashed : Hashed [] [] (replicate 1024 None)
@@ -36,8 +30,8 @@ empty_hashed = record {
   beside = refl;
   few = omega arith;
   head = λ b low. subst (LastPlace (bucket_at []) 0 b) (sym (get_or-replicate 1024 b None None low)) (λ j less _. omega arith);
-  next = λ i less. absurd (omega arith);
-  distinct = λ i j a b. absurd (omega arith);
+  next = search rules;
+  distinct = search rules;
 }
 
 -- no pair of the package edge p stands past the place, and the pair there is in p's bucket
@@ -46,36 +40,6 @@ Passed entries p None = (j : ℕ) → j < length entries → (entry_at entries j
 Passed entries p (Some i) = (i < length entries) × (bucket_at entries i ≡ p % 1024) × ((j : ℕ) → i < j → j < length entries → (entry_at entries j).package_edge ≡ p → ⊥)
 
 module _ (entries : List Entry) (releases : List ℕ) (heads : List (Option ℕ)) (h : Hashed entries releases heads) (p : ℕ) where
-  begins : (o : Option ℕ) → LastPlace (bucket_at entries) (length entries) (p % 1024) o → Passed entries p o
-  begins None l = λ j less q. l j less (ap (λ x. x % 1024) q)
-  begins (Some i) l = (l.0, l.1, λ j more less q. l.2 j more less (ap (λ x. x % 1024) q))
-
-  pub search_begins : Passed entries p (get_or heads (p % 1024) None)
-  search_begins = let low : p % 1024 < 1024 = omega arith in begins _ (h.head (p % 1024) low)
-
-  -- the pair at the place isn't p's either, and an earlier one of p's stands before the place that is next
-  goes : (i : ℕ) → Passed entries p (Some i) → ((entry_at entries i).package_edge ≡ p → ⊥) → (o : Option ℕ) → LastPlace (bucket_at entries) i (bucket_at entries i) o → Passed entries p o
-  goes i s ne o l = split o l
-    where
-      from_here : (j : ℕ) → i ≤ j → j < length entries → (entry_at entries j).package_edge ≡ p → ⊥
-      from_here j low less q = elim (cases_eq j i) [
-        | inl same ↦ ne (ap (λ k. (entry_at entries k).package_edge) (sym same) ∙ q)
-        | inr other ↦ s.2 j (omega arith) less q
-      ]
-
-      split : (o : Option ℕ) → LastPlace (bucket_at entries) i (bucket_at entries i) o → Passed entries p o
-      split None l = λ j less q. elim (cases_lt j i) [ inl before ↦ l j before (ap (λ x. x % 1024) q ∙ sym s.1) | inr after ↦ from_here j after less q ]
-      split (Some k) l =
-          let low : k < i = l.0 in
-          let top : i < length entries = s.0 in (
-            omega arith,
-            l.1 ∙ s.1,
-            λ j more less q. elim (cases_lt j i) [ inl before ↦ l.2 j more before (ap (λ x. x % 1024) q ∙ sym s.1) | inr after ↦ from_here j after less q ],
-          )
-
-  pub search_goes : (i : ℕ) → Passed entries p (Some i) → ((entry_at entries i).package_edge ≡ p → ⊥) → Passed entries p (entry_at entries i).next
-  search_goes i s ne = goes i s ne _ (h.next i s.0)
-
   pub search_finds : (i : ℕ) → Passed entries p (Some i) → (entry_at entries i).package_edge ≡ p → place p (pairs_in entries releases) ≡ Some i
   search_finds i s q =
       place_some (pair_at entries releases) (length entries) p i s.0 q (λ j less e. h.distinct j i less s.0 (e ∙ sym q))
@@ -126,14 +90,7 @@ module _ (entries : List Entry) (releases : List ℕ) (heads : List (Option ℕ)
             (λ j b. rw (old_entry j b) (last_same (bucket_at entries) (bucket_at more) j (λ x a. same_bucket x (omega arith)) _ _ (h.next j b)))
             (rw new_entry (last_same (bucket_at entries) (bucket_at more) n same_bucket _ _ (let b : p % 1024 < 1024 = omega arith in h.head (p % 1024) b)))
             i (omega arith);
-        distinct = λ x y less lt q. elim (cases_lt y n) [
-          | inl old ↦
-              h.distinct x y less old (ap (λ (e : Entry). e.package_edge) (sym (old_entry x (omega arith))) ∙ q ∙ ap (λ (e : Entry). e.package_edge) (old_entry y old))
-          | inr last ↦
-              let same : y ≡ n = omega arith in
-              let b : x < n = omega arith in
-              fresh x b (ap (λ (e : Entry). e.package_edge) (sym (old_entry x b)) ∙ q ∙ ap (λ k. (entry_at more k).package_edge) same ∙ ap (λ (e : Entry). e.package_edge) new_entry)
-        ];
+        distinct = λ x y less lt q. grind (arith, old_entry, new_entry, h.distinct, fresh, k);
       }
 
   -- the pairs are those before, and the new one last

@@ -61,7 +61,7 @@ impl WeakDependencies {
         while let Some(i) = link {
             let entry = self.entries[i as usize];
             if entry.package_edge == package_edge {
-                return Some(WeakIndex(i));
+                return Some(WeakIndex(i as u32));
             }
             link = entry.next;
         }
@@ -76,13 +76,13 @@ impl WeakDependencies {
         if let Some(index) = self.find(package_edge) {
             return Ok(index);
         }
-        let i = self.entries.len() as u32;
-        if i >= WEAK_LIMIT {
+        let i = self.entries.len() as u16;
+        if i as u32 >= WEAK_LIMIT {
             return Err(Refusal::WeakIndexesFull);
         }
         let next = self.heads[bucket(package_edge)].replace(i);
         self.entries.push(Entry { package_edge, next });
         self.release_nodes.push(release);
-        Ok(WeakIndex(i))
+        Ok(WeakIndex(i as u32))
     }
 }

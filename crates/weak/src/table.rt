@@ -3,11 +3,12 @@
 use arrayvec::ArrayVec;
 use std::marker::Model;
 
-// The package edge of a pair, and the weak index of the pair before it in its bucket.
+// The package edge of a pair, and the weak index of the pair before it in its bucket. Weak indexes lie below 1,024, so
+// two bytes hold one.
 #[derive(Clone, Copy, Default)]
 pub(crate) struct Entry {
     pub(crate) package_edge: u32,
-    pub(crate) next: Option<u32>,
+    pub(crate) next: Option<u16>,
 }
 
 // The pairs registered so far, in fixed memory. A package edge p is looked up along the chain of the bucket p % 1024:
@@ -17,7 +18,7 @@ pub(crate) struct Entry {
 pub struct WeakDependencies {
     pub(crate) entries: ArrayVec<Entry, 1024>,
     pub(crate) release_nodes: ArrayVec<u32, 1024>,
-    pub(crate) heads: [Option<u32>; 1024],
+    pub(crate) heads: [Option<u16>; 1024],
 }
 
 impl Model for WeakDependencies {

@@ -1,64 +1,43 @@
--- The loop that looks for the first place whose byte passes a test.
-use Rattle.std.proofs.Common.{◌≡◌, ℕ, ◌+◌, ◌<◌, ◌≤◌, min, Bool, true, false, not, List, length, get_or, sym, ap, ◌∙◌, ⊎_elim, arith, below_more}
-use Rattle.std.proofs.lemmas.List.Sums.{prefix_len-drop_yes, prefix_len-drop_no, prefix_len-drop_all}
-use Rattle.std.proofs.lemmas.Bool.{not_from_true, not_from_false, cases_lt}
-use Rattle.words.specs.Places.{first_at, First}
+-- The first place whose byte passes a test: `position` finds it, and words stand between two such places.
+use Rattle.std.proofs.Common.{◌≡◌, ℕ, ◌+◌, ◌-◌, ◌<◌, min, Bool, not, List, length, take, drop, position, Option, arith, length-drop}
+use Rattle.std.specs.Option.{unwrap_or}
+use Rattle.std.proofs.lemmas.Bool.Decides.{nat_tests}
+use Rattle.std.proofs.lemmas.Grind.{common_steps}
+use Rattle.std.proofs.lemmas.List.{get_or-drop}
+use Rattle.std.proofs.lemmas.List.Sums.{prefix_len-le-length, prefix_len-drop_all, fails_before_first, passes_at_first}
+use Rattle.words.specs.Places.{blank, first_at, First, IsWord, NoWord, word_start, word_end}
 
--- the search that began at `from` stands at `at`: the bytes so far fail the test, and it ends where one that begins here does
-pub record Seeking (test : ℕ → Bool) (bs : List ℕ) (from at : ℕ) : Type 0 where
-  pub onward : from ≤ length bs → from ≤ at
-  pub within : at ≤ length bs
-  pub before : (k : ℕ) → k < at → from ≤ k → test (get_or bs k 0) ≡ false
-  pub same : first_at test bs at ≡ first_at test bs from
+-- what `position` finds behind the first bytes, if anything, is the first place
+pub from_position : (test : ℕ → Bool) (bs : List ℕ) (from m at : ℕ) (r : Option ℕ) → m ≡ min from (length bs) → r ≡ position test (take (length bs - m) (drop m bs)) → at ≡ unwrap_or r (length (take (length bs - m) (drop m bs))) → m + at ≡ first_at test bs from
+from_position test bs from m at r e f g = grind (arith, common_steps, prefix_len-le-length, prefix_len-drop_all)
 
--- where it ends
-pub record Sought (test : ℕ → Bool) (bs : List ℕ) (from at : ℕ) : Type 0 where
-  pub value : at ≡ first_at test bs from
-  pub first : First test bs from at
+-- what that says of the bytes
+pub first_at_lem : (test : ℕ → Bool) (bs : List ℕ) (from : ℕ) → First test bs from (first_at test bs from)
+first_at_lem test bs from = record {
+  onward = grind (arith, common_steps);
+  within = grind (arith, common_steps, prefix_len-le-length);
+  before = λ k h g. let e = fails_before_first test (drop from bs) (k - from) 0 (omega (arith, length-drop from bs, prefix_len-le-length (λ b. not (test b)) (drop from bs))) in grind (arith, common_steps, e, get_or-drop);
+  here = λ h. let e = passes_at_first test (drop from bs) 0 (omega (arith, length-drop from bs)) in grind (arith, common_steps, e, get_or-drop);
+}
 
-past : (test : ℕ → Bool) (bs : List ℕ) (at : ℕ) → length bs ≤ at → first_at test bs at ≡ length bs
-past test bs at h = omega (arith, prefix_len-drop_all (λ b. not (test b)) bs at h)
+pub first_from : (test : ℕ → Bool) (bs : List ℕ) (from at : ℕ) → at ≡ first_at test bs from → First test bs from at
+first_from test bs from at e = rw e (first_at_lem test bs from)
 
-module _ (test : ℕ → Bool) (bs : List ℕ) (from at : ℕ) where
-  -- it begins at `from`, or at the end
-  pub seek_none : at ≡ min from (length bs) → Seeking test bs from at
-  seek_none e = record {
-    onward = λ h. omega arith;
-    within = omega arith;
-    before = λ k h g. absurd (omega arith);
-    same = ⊎_elim
-        (λ (h : from < length bs). ap (first_at test bs) (omega arith))
-        (λ (h : length bs ≤ from). past test bs at (omega arith) ∙ sym (past test bs from h))
-        (cases_lt from (length bs));
-  }
+-- a word stands between the first place that has no blank and the next that has one
+pub is_word : (text : List ℕ) (from start end : ℕ) → start ≡ word_start text from → start < length text → end ≡ word_end text start → IsWord text from (record { start = start; end = end })
+is_word text from start end s h e =
+    let a = first_at_lem (λ b. not (blank b)) text from in
+    let b = first_at_lem blank text start in
+    record {
+      onward = grind (arith, a.onward);
+      some = grind (arith, nat_tests, a.here, b.before);
+      within = grind (arith, b.within);
+      before = λ k g f. grind (arith, nat_tests, a.before k);
+      inside = λ k g f. grind (arith, b.before k);
+      ends = λ g. grind (arith, b.here);
+    }
 
-  -- a byte that fails the test is passed
-  pub seek_more : Seeking test bs from at → at < length bs → test (get_or bs at 0) ≡ false → Seeking test bs from (at + 1)
-  seek_more s h e =
-      let l = prefix_len-drop_yes (λ b. not (test b)) bs at 0 h (not_from_false _ e) in
-      let on : first_at test bs (at + 1) ≡ first_at test bs at = omega (arith, l) in
-      record {
-        onward = λ g. omega (arith, s.onward g);
-        within = omega arith;
-        before = below_more (λ k. from ≤ k → test (get_or bs k 0) ≡ false) at s.before (λ _. e);
-        same = on ∙ s.same;
-      }
-
-  -- one that passes it is the answer
-  pub seek_here : Seeking test bs from at → at < length bs → test (get_or bs at 0) ≡ true → Sought test bs from at
-  seek_here s h e =
-      let l = prefix_len-drop_no (λ b. not (test b)) bs at 0 h (not_from_true _ e) in
-      let on : at ≡ first_at test bs at = omega (arith, l) in
-      record {
-        value = on ∙ s.same;
-        first = record { onward = s.onward; within = s.within; before = s.before; here = λ _. e };
-      }
-
-  -- and so is the end
-  pub seek_end : Seeking test bs from at → length bs ≤ at → Sought test bs from at
-  seek_end s h =
-      let on : at ≡ first_at test bs at = omega (arith, past test bs at h, s.within) in
-      record {
-        value = on ∙ s.same;
-        first = record { onward = s.onward; within = s.within; before = s.before; here = λ g. absurd (omega arith) };
-      }
+pub no_word : (text : List ℕ) (from : ℕ) → word_start text from ≡ length text → NoWord text from
+no_word text from e =
+    let a = first_at_lem (λ b. not (blank b)) text from in
+    λ k g f. grind (arith, a.before k)

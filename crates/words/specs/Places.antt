@@ -1,11 +1,15 @@
 -- Where lines, records and words begin and end in a list of bytes.
 use Rattle.std.specs.Prelude.{◌≡◌, ℕ, ◌+◌, ◌-◌, ◌<◌, ◌≤◌, min, max, Bool, true, false, cond, not, ◌&&◌, ◌||◌, List, length, take, drop, Some, None, Option, ◌==◌, nat_eq, nat_le, nat_lt, slice_index}
-use Rattle.std.specs.List.{prefix_len, suffix_len}
+use Rattle.std.specs.List.{position_or_len, suffix_len}
 use Rattle.words.specs.declared.spans.Span.{Span}
+
+-- the answers that a closure may give are those of the test
+abbrev pub Tests : (ℕ → Bool → Type 0) → (ℕ → Bool) → Type 0
+Tests answers test = (b : ℕ) (r : Bool) → answers b r → r ≡ test b
 
 -- the first place at or after `from` whose byte passes the test, or the end
 abbrev pub first_at : (ℕ → Bool) → List ℕ → ℕ → ℕ
-first_at test bs from = min from (length bs) + prefix_len (λ b. not (test b)) (drop from bs)
+first_at test bs from = min from (length bs) + position_or_len test (drop from bs)
 
 -- what that says of the bytes
 pub record First (test : ℕ → Bool) (bs : List ℕ) (from at : ℕ) : Type 0 where

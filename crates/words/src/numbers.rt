@@ -9,8 +9,6 @@ use std::str::from_utf8;
 pub fn number(word: &[u8]) -> Option<u32>
     ensures { result ≡ number_of word.now }
 {
-    let Ok(text) = from_utf8(word) else {
-        return None;
-    };
-    text.parse::<u32>().ok()
+    let text = from_utf8(word).ok()?;
+    text.parse().ok()
 }

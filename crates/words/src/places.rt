@@ -1,7 +1,7 @@
 // Where lines, records and words begin and end.
 // A line ends before the byte 10, its record before a `#`, and words are parted by blanks.
-ghost use Rattle.std.specs.Prelude.{◌≡◌, not, MatchOption, nat_eq};
-ghost use Rattle.words.specs.Places.{First, IsWord, NoWord, blank, first_at, line_end, record_text, trim, trim_end, word_start, word_end, word_from};
+ghost use Rattle.std.specs.Prelude.{length, ◌≤◌, ◌≡◌, not, MatchOption, nat_eq, ℕ, Bool};
+ghost use Rattle.words.specs.Places.{First, Tests, IsWord, NoWord, blank, first_at, line_end, record_text, trim, trim_end, word_start, word_end, word_from};
 
 use crate::spans::Span;
 
@@ -12,40 +12,18 @@ fn is_blank(byte: u8) -> bool
     matches!(byte, 9..=13 | 32)
 }
 
-// The first place at or after `from` that has the byte, or the end.
-fn byte_or_end(text: &[u8], byte: u8, from: usize) -> usize
-    ensures value { result ≡ first_at (λ b. nat_eq b byte) text.now from }
-    ensures first { First (λ b. nat_eq b byte) text.now from result }
+// The first place at or after `from` whose byte passes the test, or the end.
+fn first_at<F: Fn(u8) -> bool>(text: &[u8], from: usize, passes: F) -> usize
+    requires { F.IsAlwaysCallable passes }
+    ensures within { result ≤ length text.now }
+    ensures value { (test : ℕ → Bool) → Tests (F.post passes) test → result ≡ first_at test text.now from }
 {
-    let mut at = from.min(text.len());
-    while at < text.len() && text[at] != byte {
-        at += 1;
-    }
-    at
-}
-
-// The first place at or after `from` that has no blank, or the end.
-fn skip_blanks(text: &[u8], from: usize) -> usize
-    ensures value { result ≡ word_start text.now from }
-    ensures first { First (λ b. not (blank b)) text.now from result }
-{
-    let mut at = from.min(text.len());
-    while at < text.len() && is_blank(text[at]) {
-        at += 1;
-    }
-    at
-}
-
-// The first place at or after `start` that has a blank, or the end.
-fn skip_word(text: &[u8], start: usize) -> usize
-    ensures value { result ≡ word_end text.now start }
-    ensures first { First blank text.now start result }
-{
-    let mut at = start.min(text.len());
-    while at < text.len() && !is_blank(text[at]) {
-        at += 1;
-    }
-    at
+    let from = from.min(text.len());
+    let rest = &text[from..];
+    from + rest
+        .iter()
+        .position(|byte| passes(*byte))
+        .unwrap_or(rest.len())
 }
 
 // Where the line ends that goes through `from`: at the byte 10, or at the end of the text.
@@ -53,14 +31,14 @@ pub fn line_end(text: &[u8], from: usize) -> usize
     ensures value { result ≡ line_end text.now from }
     ensures first { First (λ b. nat_eq b 10) text.now from result }
 {
-    byte_or_end(text, b'\n', from)
+    first_at(text, from, |byte| byte == b'\n')
 }
 
 // The line without its comment, which a `#` begins.
 pub fn record_text(line: &[u8]) -> &[u8]
     ensures { result.now ≡ record_text line.now }
 {
-    let end = byte_or_end(line, b'#', 0);
+    let end = first_at(line, 0, |byte| byte == b'#');
     &line[0..end]
 }
 
@@ -69,11 +47,11 @@ pub fn next_word(text: &[u8], from: usize) -> Option<Span>
     ensures value { result ≡ word_from text.now from }
     ensures word { MatchOption result (NoWord text.now from) (IsWord text.now from) }
 {
-    let start = skip_blanks(text, from);
+    let start = first_at(text, from, |byte| !is_blank(byte));
     if start == text.len() {
         return None;
     }
-    let end = skip_word(text, start);
+    let end = first_at(text, start, is_blank);
     Some(Span { start, end })
 }
 
@@ -81,7 +59,7 @@ pub fn next_word(text: &[u8], from: usize) -> Option<Span>
 pub fn trimmed(text: &[u8]) -> Span
     ensures { result ≡ trim text.now }
 {
-    let start = skip_blanks(text, 0);
+    let start = first_at(text, 0, |byte| !is_blank(byte));
     let end = trimmed_end(text).max(start);
     Span { start, end }
 }
@@ -90,9 +68,10 @@ pub fn trimmed(text: &[u8]) -> Span
 fn trimmed_end(text: &[u8]) -> usize
     ensures { result ≡ trim_end text.now }
 {
-    let mut end = text.len();
-    while end > 0 && is_blank(text[end - 1]) {
-        end -= 1;
-    }
-    end
+    let blanks = text
+        .iter()
+        .rev()
+        .take_while(|byte| is_blank(**byte))
+        .count();
+    text.len() - blanks
 }

@@ -7,10 +7,6 @@ pub returns-in_default : goal.returns-in_default
 unfolding record_of
 returns-in_default c = search rules
 
-pub returns-in_err-found : goal.returns-in_err-found
-unfolding record_of
-returns-in_err-found c = search rules
-
 pub returns : goal.returns
 unfolding record_of
 returns c = search rules

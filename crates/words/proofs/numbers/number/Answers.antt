@@ -6,5 +6,5 @@ use Rattle.words.proofs.numbers.number.Goals as goal
 pub returns : goal.returns
 returns c = search (rules, parsed)
 
-pub returns-in_default : goal.returns-in_default
-returns-in_default c = search (rules, no_text)
+pub returns-in_err-text : goal.returns-in_err-text
+returns-in_err-text c = search (rules, no_text)

@@ -1,16 +1,14 @@
--- The places passed are the blanks that the text ends with.
-use Rattle.std.proofs.Common.{sym, arith}
-use Rattle.words.proofs.Trimming.{trim_none, trim_more, trim_here, trim_all}
+-- As many blanks are counted as the text ends with.
+use Rattle.std.proofs.Common.{rules, reverse, tests, ap, ◌∙◌, ◌-◌, length}
+use Rattle.std.proofs.lemmas.Iterator.Adapters.{YieldsList-from_rev_slice}
+use Rattle.std.proofs.lemmas.Iterator.Consumers.{count_from_yields_List}
+use Rattle.std.proofs.lemmas.Iterator.Search.{YieldsList-from_take_while}
+use Rattle.std.proofs.lemmas.List.Folds.{length-prefix_len}
+use Rattle.words.specs.Places.{blank}
 use Rattle.words.proofs.places.trimmed_end.Goals as goal
 
-pub loop-end-init : goal.loop-end-init
-loop-end-init c = trim_none _
-
-pub loop-end-preserved : goal.loop-end-preserved
-loop-end-preserved c = trim_more _ _ c.loop-end.invariant (omega arith) (sym c.if-is_blank.ensures)
-
-pub returns-else-is_blank : goal.returns-else-is_blank
-returns-else-is_blank c = trim_here _ _ c.loop-end.invariant (omega arith) (sym c.if-is_blank.ensures)
-
-pub returns-after-loop-end : goal.returns-after-loop-end
-returns-after-loop-end c = trim_all _ _ c.loop-end.invariant (omega arith)
+pub returns : goal.returns
+returns c =
+    let text = c.args.text.now in
+    let blanks = count_from_yields_List c.take_while.result _ c.count-blanks.ensures.ran (YieldsList-from_take_while _ blank (YieldsList-from_rev_slice text cc) c.take_while.ensures.closure c.take_while.ensures.done (λ x b q k. search (rules, tests))) in
+    ap (λ n. length text - n) (blanks ∙ length-prefix_len blank (reverse text))

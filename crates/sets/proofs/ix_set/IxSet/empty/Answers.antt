@@ -20,4 +20,4 @@ invariant_of-result g c =
     }
 
 pub returns : goal.returns
-returns g c = (refl, zeros (vec_items c.in_ok-words.words) ((c.args.nodes + 63) / 64) (c.in_ok-words.ensures.items_if_clones_equal (λ y e. e)))
+returns g c = record { nodes = refl; members = zeros (vec_items c.in_ok-words.words) ((c.args.nodes + 63) / 64) (c.in_ok-words.ensures.items_if_clones_equal (λ y e. e)) }

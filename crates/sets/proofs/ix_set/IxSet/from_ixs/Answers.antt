@@ -1,9 +1,10 @@
 -- Each index is a node, so it becomes a member; and nothing else does.
-use Rattle.std.proofs.Common.{◌≡◌, ◌<◌, true, ◌&&◌, ◌||◌, eqb, ltb, map, length, get_or, None, Ok, sym, ap, ◌∙◌, subst, ap₂, arith}
+use Rattle.std.proofs.Common.{◌≡◌, ◌<◌, true, ◌&&◌, ◌||◌, eqb, ltb, map, length, get_or, None, sym, ap, ◌∙◌, ap₂, arith}
 use mathlib.Core.Bool.{and-true}
-use Rattle.std.proofs.lemmas.List.{length-map, get_or-map, take_all}
-use Rattle.sets.specs.Making.{among, beyond, MakesBy}
-use Rattle.sets.proofs.Failing.{failing_passes, among_more}
+use Rattle.std.proofs.lemmas.Bool.{lt-ltb}
+use Rattle.std.proofs.lemmas.List.{length-map, get_or-map}
+use Rattle.sets.specs.Making.{beyond}
+use Rattle.sets.proofs.Given.{all_nodes, among_more}
 use Rattle.sets.proofs.ix_set.IxSet.from_ixs.Goals as goal
 
 pub loop-ix-preserved : goal.loop-ix-preserved
@@ -17,17 +18,11 @@ loop-ix-preserved g c =
     let is : get_or (map number xs) i 0 ≡ number x = get_or-map number xs i x 0 c.loop-ix-test.true ∙ ap number (sym c.ix-item.is) in
     let none : beyond c.args.nodes (map number xs) ≡ None = sym c.first_beyond.ensures ∙ c.in_default.is in
     let node : ltb (number x) s.nodes ≡ true =
-    ap₂ ltb (sym is) c.loop-ix.invariant.0 ∙ failing_passes (λ n. ltb n c.args.nodes) (map number xs) none i l in (
-      c.insert.ensures.nodes ∙ c.loop-ix.invariant.0,
-      λ n. c.insert.ensures.members n
-          ∙ ap₂ (λ a b. a || b) (c.loop-ix.invariant.1 n) (ap (λ b. eqb n (number x) && b) node ∙ and-true (eqb n (number x)) ∙ ap (eqb n) (sym is))
-          ∙ sym (among_more (map number xs) i n l),
-    )
-
-pub returns : goal.returns
-returns g c =
-    let number = g.S.Ix.IndexType.number in
-    let xs = map number c.args.ixs.now in
-    let none : beyond c.args.nodes xs ≡ None = sym c.first_beyond.ensures ∙ c.in_default.is in
-    subst (λ o. MakesBy o c.args.nodes xs (Ok c.loop-ix.set)) (sym none)
-    (c.loop-ix.invariant.0, λ n. c.loop-ix.invariant.1 n ∙ ap (λ ys. among ys n) (take_all c.loop-ix.ix-index xs (omega (arith, length-map c.args.ixs.now number))))
+    let below = all_nodes c.args.nodes (map number xs) none i l in
+    lt-ltb (number x) s.nodes (omega (arith, is, c.loop-ix.invariant.nodes)) in
+    record {
+      nodes = c.insert.ensures.set.nodes ∙ c.loop-ix.invariant.nodes;
+      members = λ n. c.insert.ensures.set.members n
+          ∙ ap₂ (λ a b. a || b) (c.loop-ix.invariant.members n) (ap (λ b. eqb n (number x) && b) node ∙ and-true (eqb n (number x)) ∙ ap (eqb n) (sym is))
+          ∙ sym (among_more (map number xs) i n l);
+    }
