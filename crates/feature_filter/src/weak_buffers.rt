@@ -46,6 +46,7 @@ impl WeakBuffers {
     }
 
     // An index meets an event: the one match on its state and the event together.
+    #[tactic(auto, using(buffers::proofs::Chaining::met_arrives, buffers::proofs::Chaining::last_before))]
     fn meets(
         &mut self,
         index: usize,
@@ -150,6 +151,7 @@ impl WeakBuffers {
 }
 
 // Writes an edge to an entry, and links the last edge of a chain with it: the chain that ends there.
+#[tactic(auto, using(buffers::proofs::Chaining::set_linked))]
 fn append(
     hold: &mut [Held<EdgeRef<FeatureIx, FeatureEdge>>],
     place: usize,
