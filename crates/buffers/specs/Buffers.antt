@@ -1,7 +1,7 @@
 -- Ref, Entry: an edge as a walk gives it, and an entry of the hold table.  meaning: the edge that it stands for.
 -- state_of: the state of a weak index.  is_out: it is Released.  told_by: some index that a node releases is Released.
--- lying: the edges in the front of the hold table.  held_in: those of them that count as held.  handed: the front of the
--- hand-out table.
+-- lying: the edges in the front of the hold table.  held_in: those of them that count as held.  lets_out: what an index lets
+-- out of them.  handed: the front of the hand-out table.
 -- seek: the first place from another on that passes a test.  Firsts, Nexts: tables that lead through the indexes of a node's
 -- bucket, ascending.  released: the indexes that a node releases.  left: those from a link on.  Inside: the link names an
 -- index of the node's bucket.
@@ -29,7 +29,7 @@ use Rattle.buffers.specs.declared.states.Event.{Event}
 use Rattle.buffers.specs.declared.states.Event.TheVariants.{Arrives, Told}
 use Rattle.buffers.specs.declared.states.Outcome.{Outcome}
 use Rattle.buffers.specs.declared.states.Outcome.TheVariants.{Holds, Judges, Frees, Nothing}
-use Rattle.buffers.specs.Rules.{links, wanted, at_index}
+use Rattle.buffers.specs.Rules.{links, wanted, at_index, goes_out}
 
 abbrev pub Ref : Type 0
 Ref = EdgeRef (NodeIx FeatureGraphSpec) FeatureEdge
@@ -72,6 +72,10 @@ lying used hold = map edge_of (take used hold)
 -- what lies there for an index not released, but for what the verdict rejects
 abbrev pub held_in : (Link → Bool) → List SingleBufferState → ℕ → List Entry → List (Edge FeatureEdge)
 held_in accepts ss used hold = filter (held_one accepts ss) (lying used hold)
+
+-- what index i lets out of them as its node is told
+abbrev pub lets_out : (Link → Bool) → ℕ → List SingleBufferState → ℕ → List Entry → List (Edge FeatureEdge)
+lets_out accepts i ss used hold = filter (goes_out accepts i) (held_in accepts ss used hold)
 
 abbrev pub handed : ℕ → List Ref → List (Edge FeatureEdge)
 handed out hand = map meaning (take out hand)

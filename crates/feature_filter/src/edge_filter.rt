@@ -55,6 +55,7 @@ impl<'a, V: Verdict> BufferedEdgeFilter for FeatureEdgeFilter<'a, V> {
 
     ghost fair = { λ s. feature_fair (V.Verdict.accepts s.verdict) s.releases.nodes.now s.direction };
 
+    #[tactic(auto, using(buffers::proofs::Beginning::blank_told, buffers::proofs::Beginning::blank_okay))]
     fn begin(&mut self) {
         self.buffers.begin(self.releases.nodes.len());
     }

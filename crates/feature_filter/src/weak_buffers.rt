@@ -7,7 +7,7 @@ ghost use Rattle.index.specs.declared.links.Link.{Link as AnyLink};
 ghost use Rattle.index.specs.declared.links.EdgeLinks.TheVariants.{Weak as WeakLinks};
 ghost use Rattle.filter.specs.Filters.{Discovers};
 ghost use Rattle.buffers.specs.Rules.{links, waiting, wanted, goes_out, feature_rule};
-ghost use Rattle.buffers.specs.Buffers.{meaning, state_of, told_by, edge_of, held_in, handed, Blank, Next, Linked, Chained, Okay, Ready, extended, relinked, Met, Moved, at_place};
+ghost use Rattle.buffers.specs.Buffers.{meaning, state_of, told_by, edge_of, held_in, lets_out, handed, Blank, Next, Linked, Chained, Okay, Ready, extended, relinked, Met, Moved, at_place};
 
 use crate::releases::Releases;
 use buffers::states::{Chain, Event, Outcome, SingleBufferState};
@@ -46,6 +46,7 @@ impl WeakBuffers {
     }
 
     // An index meets an event: the one match on its state and the event together.
+    #[tactic(auto, using(buffers::proofs::Chaining::met_arrives, buffers::proofs::Chaining::last_before))]
     fn meets(
         &mut self,
         index: usize,
@@ -111,12 +112,12 @@ impl WeakBuffers {
         requires known { index < 1024 }
         requires fits { self.old.used ≤ length hold.old }
         requires chained { Chained index self.old.used hold.old (state_of self.old.states index) }
-        requires room { length (filter (goes_out (V.Verdict.accepts verdict.old) index) (held_in (V.Verdict.accepts verdict.old) self.old.states self.old.used hold.old)) ≤ length hand.old }
+        requires room { length (lets_out (V.Verdict.accepts verdict.old) index self.old.states self.old.used hold.old) ≤ length hand.old }
         ensures same { V.Verdict.accepts verdict.new ≡ V.Verdict.accepts verdict.old }
         ensures rests { (self.new.used ≡ self.old.used) × (hold.new ≡ hold.old) }
         ensures moved { Moved index self.old.states self.new.states }
-        ensures goes { handed result hand.new ≡ filter (goes_out (V.Verdict.accepts verdict.old) index) (held_in (V.Verdict.accepts verdict.old) self.old.states self.old.used hold.old) }
-        ensures counts { result ≡ length (filter (goes_out (V.Verdict.accepts verdict.old) index) (held_in (V.Verdict.accepts verdict.old) self.old.states self.old.used hold.old)) }
+        ensures goes { handed result hand.new ≡ lets_out (V.Verdict.accepts verdict.old) index self.old.states self.old.used hold.old }
+        ensures counts { result ≡ length (lets_out (V.Verdict.accepts verdict.old) index self.old.states self.old.used hold.old) }
     {
         match self.meets(index, Event::Told, hold) {
             Outcome::Frees(first) => follow(verdict, &hold[..self.used], index, first, hand),
@@ -150,6 +151,7 @@ impl WeakBuffers {
 }
 
 // Writes an edge to an entry, and links the last edge of a chain with it: the chain that ends there.
+#[tactic(auto, using(buffers::proofs::Chaining::set_linked))]
 fn append(
     hold: &mut [Held<EdgeRef<FeatureIx, FeatureEdge>>],
     place: usize,
