@@ -76,10 +76,10 @@ impl Page {
         ensures { Writes result self.old (complaint_text complaint line.now number) self.new }
     {
         write!(self, "bad line {number}: {complaint}")?;
-        match complaint.word() {
-            Some(word) => self.add(word.of(line)),
-            None => Ok(()),
+        if let Some(word) = complaint.word() {
+            self.add(word.of(line))?;
         }
+        Ok(())
     }
 
     // The weak index of a pair.

@@ -3,7 +3,7 @@
 ghost use Rattle.std.specs.Prelude.{◌≡◌};
 ghost use Rattle.std.specs.List.{between};
 
-// The bytes from `start` on, before `end`.
+// The bytes from `start` on, before `end`: std's `Range` would not be `Copy`, nor what holds one.
 #[derive(Clone, Copy, PartialEq, Eq, Debug)]
 pub struct Span {
     pub start: usize,

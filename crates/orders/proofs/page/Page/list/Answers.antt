@@ -6,7 +6,7 @@ use Rattle.theory.proofs.Cursors.{step_some}
 use Rattle.theory.specs.Graphs.{Steps}
 use Rattle.graph.specs.Meaning.{meant}
 use Rattle.orders.proofs.Adding.{step_none, writes_list}
-use Rattle.orders.specs.Wording.{head_text, edges_text}
+use Rattle.orders.specs.Wording.{head_text}
 use Rattle.orders.proofs.page.Page.list.Goals as goal
 
 pub returns : goal.returns
@@ -28,4 +28,4 @@ returns g c =
     let end = c.in-None.ensures.steps.1 in
     let edges = c.into_iter-edge-iterator in
     let begun : rest edges.result.graph.now edges.result.cursor ≡ left = search (rules, edges.ensures.into_iter_gives) in
-    writes_list before _ _ _ _ _ _ head c.loop-edge.invariant (ap edges_text (step_none _ _ end)) (ap edges_text begun)
+    writes_list before _ _ _ _ _ _ head c.loop-edge.invariant (step_none _ _ end) begun
