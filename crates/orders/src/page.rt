@@ -23,13 +23,26 @@ impl Model for Page {
     ghost view = { λ page. page.bytes.items };
 }
 
+// A page goes on from bytes that are there already.
+impl From<Vec<u8>> for Page {
+    ghost from_gives = { λ bytes page. page ≡ bytes.items };
+
+    fn from(bytes: Vec<u8>) -> Page {
+        Page { bytes } // nothing of them goes
+    }
+}
+
 impl Page {
     pub fn new(heap: Global) -> Page
         ensures { result ≡ [] }
     {
-        Page {
-            bytes: Vec::new(heap),
-        }
+        Page::from(Vec::new(heap))
+    }
+
+    pub fn into_bytes(self) -> Vec<u8>
+        ensures { result.items ≡ self }
+    {
+        self.bytes // with the answers behind those that were there
     }
 
     pub fn bytes(&self) -> &[u8]
