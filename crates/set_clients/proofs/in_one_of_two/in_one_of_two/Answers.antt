@@ -33,4 +33,8 @@ returns c =
     let second = gave_first _ _ _ 3 (64 ∷ []) first.1 c.next-2.ensures.steps in
     let third = gave_first _ _ _ 64 [] second.1 c.next-3.ensures.steps in
     let fourth = gave_none _ _ _ third.1 c.next-4.ensures.steps in
-    (c.len.ensures ∙ ap length is, same_four _ _ _ _ (Some 0) (Some 3) (Some 64) None first.0 second.0 third.0 fourth)
+    record {
+      count = c.len.ensures ∙ ap length is;
+      which = same_four _ _ _ _ (Some 0) (Some 3) (Some 64) None first.0 second.0 third.0 fourth;
+      unmade = tt;
+    }
