@@ -1,5 +1,5 @@
 // The filter over feature edges: what it makes of an edge that it is asked about, and of a node that it is told.
-ghost use Rattle.std.specs.Prelude.{◌≡◌, ℕ, ◌≤◌, map};
+ghost use Rattle.std.specs.Prelude.{◌≡◌, map};
 ghost use Rattle.theory.specs.Pairs.{Pair};
 ghost use Rattle.weak.specs.Registered.{pairs as pairs_of};
 ghost use Rattle.buffers.specs.Rules.{feature_rule, needed};

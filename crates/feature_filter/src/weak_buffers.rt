@@ -1,5 +1,5 @@
 // Weak buffers: each weak index is Buffered or Released, and one match says what it makes of an event.
-ghost use Rattle.std.specs.Prelude.{◌≡◌, ◌+◌, ◌<◌, ◌≤◌, Bool, List, ◌++◌, map, length, None as Nothing, Some as SomeOf, filter, Option, slice_set, slice_get};
+ghost use Rattle.std.specs.Prelude.{◌≡◌, ◌+◌, ◌<◌, ◌≤◌, Bool, map, length, None as Nothing, Some as SomeOf, filter, Option, slice_set, slice_get};
 ghost use Rattle.std.specs.Option.{MatchOption};
 ghost use Rattle.theory.specs.Rules.{was_told, held_for};
 ghost use Rattle.index.specs.declared.direction.DependencyDirection.TheVariants.{Forward as Ahead};

@@ -1,5 +1,4 @@
 // A filter that is lent is a filter of the same meaning.
-ghost use Rattle.std.specs.Prelude.{◌≡◌};
 
 use crate::buffered::{BufferedEdgeFilter, Held};
 use graph::edge::EdgeRef;

@@ -1,5 +1,4 @@
 // One of two filters, so that code with one type of filter can take turns with both.
-ghost use Rattle.std.specs.Prelude.{◌≡◌};
 ghost use Rattle.either.specs.declared.Either.TheVariants.{Left as LeftOf, Right as RightOf};
 
 use crate::buffered::{BufferedEdgeFilter, Held};

@@ -1,6 +1,6 @@
 // What a walk is handed as it begins at a node: the calls of its first visit, over any graph and any filter. That they need
 // no more room than an entry for each edge of the graph follows from the contracts.
-ghost use Rattle.std.specs.Prelude.{◌≡◌, ℕ, false, length, if◌then◌else◌, Some as SomeOf, None as NoneOf, filter as kept_by, nat_le};
+ghost use Rattle.std.specs.Prelude.{◌≡◌, false, length, if◌then◌else◌, Some as SomeOf, None as NoneOf, filter as kept_by, nat_le};
 ghost use Rattle.theory.specs.Rules.{hands};
 ghost use Rattle.theory.specs.Walk.{mark};
 

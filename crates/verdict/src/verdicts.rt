@@ -1,5 +1,4 @@
 // The mask verdict and the table verdict.
-ghost use Rattle.std.specs.Prelude.{◌≡◌};
 ghost use Rattle.verdict.specs.Verdicts.{shares, marked};
 
 use crate::verdict::Verdict;
