@@ -62,7 +62,7 @@ impl<'a, S: GraphSpec> FinishedGraph<'a, S> {
     pub fn release_node(&self, index: WeakIndex) -> Option<S::Ix>
         ensures { option_map S.Ix.IndexType.number result ≡ option_map (λ p. p.release) (slice_get self.now.draft.pairs index.0) }
     {
-        let node = self.weak().release_node(index)?;
+        let node = self.weak().release_node(index)?; // a function of a type's own, S::Ix::new, is not passed to `map` yet
         Some(S::Ix::new(node))
     }
 
@@ -131,7 +131,7 @@ impl<'a, S: GraphSpec> Graph for FinishedGraph<'a, S> {
             source: S::Ix::new(words[0]),
             target: S::Ix::new(words[1]),
             number,
-            weight: S::Edge::decode([words[4], words[5], words[6], words[7]]),
+            weight: S::Edge::decode([words[4], words[5], words[6], words[7]]), // `try_from` of a slice would need an unwrap
         })
     }
 }

@@ -206,6 +206,7 @@ fn follow<V: Verdict>(
 {
     let mut link = Some(first);
     let mut out = 0;
+    // The link is followed by hand: an iterator along it would be one more type for this one loop.
     while let Some(place) = link {
         let entry = lying[place];
         if wants(verdict, entry.edge) {

@@ -27,7 +27,7 @@ pub fn handed_at_first<G: Graph, F: BufferedEdgeFilter<Ix = G::Ix, Weight = G::W
     }
     filter.begin();
     let _ = filter.discover(node, hold, hand);
-    let mut count = 0;
+    let mut count = 0; // by hand: what a closure does to the filter that it asks is not known after the iterator's `count`
     for edge in Edges::outgoing(graph, node) {
         if filter.filter(&edge, hold) {
             count += 1;
