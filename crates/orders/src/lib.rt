@@ -8,3 +8,5 @@ pub mod lines;
 mod listing;
 pub mod naming;
 pub mod page;
+#[cfg(test)]
+mod tests;
