@@ -3,7 +3,8 @@ use graph::edge::EdgeRef;
 use index::records::FeatureEdge;
 use index::spec::FeatureIx;
 
-// The edges that lie in the hold table for an index are linked, from the first to the last: their places.
+// The edges that lie in the hold table for an index are linked, from the first to the last: their places. (Places and not
+// boxes, since no call may want for memory.)
 #[derive(Clone, Copy, PartialEq, Eq, Debug)]
 pub struct Chain {
     pub first: usize,
@@ -17,7 +18,8 @@ pub enum SingleBufferState {
     Released,
 }
 
-// An edge with the index arrives, or the release node of the index is told.
+// An edge with the index arrives, or the release node of the index is told. One type for both, since the project wants one
+// match on the state and the event together.
 #[derive(Clone, Copy, PartialEq, Eq, Debug)]
 pub enum Event {
     Arrives(EdgeRef<FeatureIx, FeatureEdge>),

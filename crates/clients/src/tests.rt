@@ -8,7 +8,7 @@ use index::refusal::{Refusal, Told};
 use index::spec::{FeatureGraphSpec, FeatureIx, IndexType, PackageGraphSpec, PackageIx};
 use std::test::Fail;
 
-// The number and the detail of the refusal, if the call was refused.
+// The number and the detail of the refusal, if the call was refused: the fixed numbers are what is tested here.
 fn refusal<T: Drop>(r: Result<T, Refusal>) -> Option<(u32, usize)> {
     let told = Told::from(r.err()?);
     Some((told.number, told.detail))

@@ -13,7 +13,8 @@ use std::marker::Model;
 use weak::table::WeakDependencies;
 
 // A graph in the making, laid over a caller's table. `finish` makes a graph of it and uses it up.
-// Contracts see a draft as its state: the words of the table, how many nodes and edges they hold, and the weak pairs.
+// Contracts see a draft as its state: the words of the table, how many nodes and edges they hold, and the weak pairs. The
+// counts stand beside the words, since the table is the caller's and of any length.
 #[derive(Drop)]
 pub struct Draft<'a, S> {
     pub(crate) words: &'a mut [u32],

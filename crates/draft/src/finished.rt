@@ -62,7 +62,7 @@ impl<'a, S: GraphSpec> FinishedGraph<'a, S> {
     pub fn release_node(&self, index: WeakIndex) -> Option<S::Ix>
         ensures { option_map S.Ix.IndexType.number result ≡ option_map (λ p. p.release) (slice_get self.now.draft.pairs index.0) }
     {
-        let node = self.weak().release_node(index)?; // a function of a type's own, S::Ix::new, is not passed to `map` yet
+        let node = self.weak().release_node(index)?;
         Some(S::Ix::new(node))
     }
 

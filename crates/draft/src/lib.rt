@@ -1,6 +1,6 @@
 // A graph laid over a caller's table of words. `raw` writes the table, `draft` has the draft that takes pairs and edges,
-// `finished` the graph that finishing makes of it. What a table means stands in specs/Table, what each call of a draft
-// does in specs/Drafting.
+// `finished` the graph that finishing makes of it. What a table means stands in specs/Table of the crate `tables`, what
+// each call of a draft does in specs/Drafting.
 #![tactic(auto)]
 
 pub mod draft;

@@ -77,6 +77,7 @@ impl<'a, V: Verdict> BufferedEdgeFilter for FeatureEdgeFilter<'a, V> {
             ) => {
                 // Both halves are dealt with, the required one first, and then joined: neither spares the other.
                 let now = judges(&mut self.verdict, required);
+                // One type for both directions, since a caller picks the direction as it runs.
                 let later = match self.direction {
                     DependencyDirection::Forward => {
                         self.buffers
@@ -105,8 +106,8 @@ impl<'a, V: Verdict> BufferedEdgeFilter for FeatureEdgeFilter<'a, V> {
     }
 }
 
-// Whether there is a required link, and it is accepted. (By a match: what is_some_and promises of a closure that is called
-// once doesn't say what the verdict keeps.)
+// Whether there is a required link, and it is accepted.
+// By a match: after `is_some_and` it is not known what the verdict keeps.
 fn judges<V: Verdict>(verdict: &mut V, required: Option<Link>) -> bool
     ensures answer { result ≡ needed (V.Verdict.accepts verdict.old) required }
     ensures same { V.Verdict.accepts verdict.new ≡ V.Verdict.accepts verdict.old }

@@ -26,6 +26,8 @@ pub struct WeakBuffers {
     pub(crate) used: usize,
 }
 
+// Contracts name states, used and hold apart, since the hold table is the caller's and no value has all three. What a clause
+// `same` says of a verdict is the trait's own promise, once for each function that asks it.
 impl WeakBuffers {
     pub(crate) fn new() -> WeakBuffers {
         WeakBuffers {
@@ -206,7 +208,7 @@ fn follow<V: Verdict>(
 {
     let mut link = Some(first);
     let mut out = 0;
-    // The link is followed by hand: an iterator along it would be one more type for this one loop.
+    // By hand: a loop asks for an iterator that is known to end, and std's `successors` is not; `out` is what is answered.
     while let Some(place) = link {
         let entry = lying[place];
         if wants(verdict, entry.edge) {

@@ -18,40 +18,36 @@ enum Call {
 }
 
 // How many edges a call handed out, and the numbers of the first three.
-type Answer = (usize, [u32; 3]);
+type Answer = (usize, [Option<u32>; 3]);
 
-const NONE: Answer = (0, [0; 3]);
+const NONE: Answer = (0, [None; 3]);
 
-fn numbers(handed: &[EdgeRef<FeatureIx, FeatureEdge>]) -> [u32; 3] {
-    let mut first = [0; 3];
+fn one(number: u32) -> Answer {
+    (1, [Some(number), None, None])
+}
+
+fn numbers(handed: &[EdgeRef<FeatureIx, FeatureEdge>]) -> [Option<u32>; 3] {
+    let mut first = [None; 3];
     for (number, edge) in first.iter_mut().zip(handed) {
-        *number = edge.number;
+        *number = Some(edge.number);
     }
     first
 }
 
-// Begins the filter, makes the calls with tables of so many entries, and writes down what each was answered, as long as the
-// tables have room.
+// Begins the filter, makes the calls, and writes down what each was answered, as long as the tables have room.
 fn replay<F: BufferedEdgeFilter<Ix = FeatureIx, Weight = FeatureEdge>, const CALLS: usize>(
     filter: &mut F,
     edges: &[EdgeRef<FeatureIx, FeatureEdge>],
     calls: &[Call; CALLS],
-    entries: usize,
+    hold: &mut [Held<EdgeRef<FeatureIx, FeatureEdge>>],
+    hand: &mut [EdgeRef<FeatureIx, FeatureEdge>],
 ) -> [Answer; CALLS] {
-    let blank = edge(0, 0, 0, FeatureEdge::NamedFeature);
-    let mut hold = [Held {
-        edge: blank,
-        next: None,
-    }; 6];
-    let mut hand = [blank; 6];
-    let entries = entries.min(6);
-    let hold = &mut hold[..entries];
-    let hand = &mut hand[..entries];
     let mut answers = [NONE; CALLS];
     filter.begin();
+    // By hand: the filter asks for room for one entry more than were asked about before.
     let mut asked = 0;
     for (call, answer) in calls.iter().zip(answers.iter_mut()) {
-        if asked >= entries {
+        if asked >= hold.len() || asked > hand.len() {
             break;
         }
         match *call {
@@ -65,12 +61,26 @@ fn replay<F: BufferedEdgeFilter<Ix = FeatureIx, Weight = FeatureEdge>, const CAL
                 };
                 asked += 1;
                 if filter.filter(edge, hold) {
-                    *answer = (1, [number, 0, 0]);
+                    *answer = one(number);
                 }
             }
         }
     }
     answers
+}
+
+// Tables of so many entries, with an edge in each.
+fn tables<const N: usize>(
+    blank: EdgeRef<FeatureIx, FeatureEdge>,
+) -> (
+    [Held<EdgeRef<FeatureIx, FeatureEdge>>; N],
+    [EdgeRef<FeatureIx, FeatureEdge>; N],
+) {
+    let held = Held {
+        edge: blank,
+        next: None,
+    };
+    ([held; N], [blank; N])
 }
 
 // d0 e2(2) e0(0) d1 e1 d2(1) d3 in the original's trace: nodes told, edges asked about, and in brackets what is handed out.
@@ -97,17 +107,10 @@ fn the_four_node_walk_goes_as_in_the_original(rt: HostRuntime) {
     ];
     let verdict = MaskVerdict { wanted: 1 };
     let mut filter = FeatureEdgeFilter::new(graph.weak(), DependencyDirection::Forward, verdict);
+    let (mut hold, mut hand) = tables::<4>(edges[0]);
     assert_eq!(rt;
-        replay(&mut filter, &edges, &calls, 4),
-        [
-            NONE,
-            (1, [2, 0, 0]),
-            (1, [0; 3]),
-            NONE,
-            NONE,
-            (1, [1, 0, 0]),
-            NONE
-        ]
+        replay(&mut filter, &edges, &calls, &mut hold, &mut hand),
+        [NONE, one(2), one(0), NONE, NONE, one(1), NONE]
     );
 }
 
@@ -140,18 +143,19 @@ fn held_edges_go_out_index_by_index_in_each_walk(rt: HostRuntime) {
     ];
     let verdict = MaskVerdict { wanted: 1 };
     let mut filter = FeatureEdgeFilter::new(graph.weak(), DependencyDirection::Forward, verdict);
-    let first = replay(&mut filter, &edges, &calls, 6);
-    let second = replay(&mut filter, &edges, &calls, 6);
+    let (mut hold, mut hand) = tables::<6>(edges[0]);
+    let first = replay(&mut filter, &edges, &calls, &mut hold, &mut hand);
+    let second = replay(&mut filter, &edges, &calls, &mut hold, &mut hand);
     assert_eq!(rt;
         first,
         [
             NONE,
-            (1, [4, 0, 0]),
+            one(4),
             NONE,
             NONE,
             NONE,
-            (1, [0; 3]),
-            (3, [2, 0, 1])
+            one(0),
+            (3, [Some(2), Some(0), Some(1)])
         ]
     );
     assert_eq!(rt; second, first);
@@ -169,12 +173,13 @@ fn reverse_judges_at_once_and_an_unknown_index_waits_on_nothing(rt: HostRuntime)
     let verdict = MaskVerdict { wanted: 1 };
     let mut reverse = FeatureEdgeFilter::new(&weak, DependencyDirection::Reverse, verdict);
     let mut forward = FeatureEdgeFilter::new(&weak, DependencyDirection::Forward, verdict);
+    let (mut hold, mut hand) = tables::<3>(edges[0]);
     assert_eq!(rt;
-        replay(&mut reverse, &edges, &calls, 3),
-        [(1, [0; 3]), (1, [1, 0, 0]), NONE]
+        replay(&mut reverse, &edges, &calls, &mut hold, &mut hand),
+        [one(0), one(1), NONE]
     );
     assert_eq!(rt;
-        replay(&mut forward, &edges, &calls, 3),
-        [NONE, (1, [1, 0, 0]), NONE]
+        replay(&mut forward, &edges, &calls, &mut hold, &mut hand),
+        [NONE, one(1), NONE]
     );
 }

@@ -28,7 +28,7 @@ impl<'g, G: Graph> Edges<'g, G> {
 }
 
 impl<'g, G: BothWays> Edges<'g, G> {
-    // The edges that enter n.
+    // The edges that enter n. Apart from `outgoing`, since a graph that is only walked forward has no incoming lists.
     pub fn incoming(graph: &'g G, n: G::Ix) -> Edges<'g, G>
         ensures graph { result.graph.now ≡ graph.now }
         ensures list { G.Graph.rest graph.now result.cursor ≡ G.BothWays.ins graph.now (G.Ix.IndexType.number n) }

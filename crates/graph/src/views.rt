@@ -1,4 +1,4 @@
-// Views of a graph: turned round, cut down to a set of nodes, and lent.
+// Views of a graph: turned round, and cut down to a set of nodes.
 ghost use Rattle.std.specs.Prelude.{◌≡◌, ℕ, Bool, ◌&&◌, List, map, filter};
 ghost use Rattle.theory.specs.Edges.{turn, within};
 ghost use Rattle.theory.proofs.Turning.{turned_sound, turned_tied, filtered_sound, filtered_tied};
@@ -117,6 +117,7 @@ impl<G: Graph, S: NodeSet<Ix = G::Ix>> Graph for NodeFiltered<G, S> {
 
     // Both ends are asked at each edge, so that the cursor of the graph below serves, and a node outside has no edge.
     fn next(&self, c: &mut G::Cursor) -> Option<EdgeRef<G::Ix, G::Weight>> {
+        // By hand: `find` of `Edges` would copy the cursor in and out again.
         while let Some(edge) = self.graph.next(c) {
             if self.set.contains(edge.source) && self.set.contains(edge.target) {
                 return Some(edge);

@@ -42,7 +42,8 @@ fn weigh(draft: &mut Draft<'_, FeatureGraphSpec>, form: Form) -> Result<FeatureE
     })
 }
 
-// Adds an edge of a feature graph, and answers its number.
+// Adds an edge of a feature graph, and answers its number. Source and target stand as the record has them: a pair of their own
+// would be taken apart at once.
 pub fn lay_feature_edge(
     draft: &mut Draft<'_, FeatureGraphSpec>,
     source: u32,

@@ -10,7 +10,8 @@ pub struct Line<'a> {
     pub text: &'a [u8],
 }
 
-// How far the text has been read: the next line begins at `at`, and `number` lines came before it.
+// How far the text has been read: the next line begins at `at`, and `number` lines came before it. A place and not the rest
+// of the text, since it bounds the number; and no `split`, which gives a piece after the last line feed, which is no line.
 #[derive(Drop)]
 pub struct Lines<'a> {
     text: &'a [u8],

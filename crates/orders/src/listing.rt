@@ -18,7 +18,7 @@ impl Page {
         self.list("out", node, graph, start)
     }
 
-    // The edges that enter a node.
+    // The edges that enter a node. Apart from `outgoing`, since not every graph has incoming lists.
     pub fn incoming<G: BothWays>(&mut self, graph: &G, node: u32) -> Result<(), AllocError>
         ensures { Writes result self.old (list_text (codes "into") node (G.ins graph.now node)) self.new }
     {

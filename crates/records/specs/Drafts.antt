@@ -59,4 +59,6 @@ edge_at standing rest =
 
 -- setup, in a draft
 abbrev pub set_up_in : Standing → Result Record Complaint
-set_up_in standing = and_then (ok_or (draft_of standing) SetUpWithoutGraph) (λ _. Ok SetUp)
+set_up_in Nothing = Err SetUpWithoutGraph
+set_up_in (Draft kind) = Ok SetUp
+set_up_in Finished = Err SetUpWithoutGraph

@@ -8,7 +8,8 @@ use crate::complaints::Complaint;
 use std::marker::Model;
 use words::{Span, next_word, number, trimmed};
 
-// The text of a record, and the place from which the next word is looked for.
+// The text of a record, and the place from which the next word is looked for. A place and not the rest of the text, since a
+// word is a span of the whole text.
 #[derive(Drop)]
 pub(crate) struct Words<'a> {
     text: &'a [u8],
@@ -48,7 +49,7 @@ impl<'a> Words<'a> {
         Ok(word)
     }
 
-    // The next word as a number.
+    // The next word as a number. Apart from `mask`: a common one would take the reading as a closure, for two lines saved.
     pub(crate) fn number(&mut self) -> Result<u32, Complaint>
         ensures value { result ≡ number_at self.old }
         ensures rest { self.new ≡ after self.old }

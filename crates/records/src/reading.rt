@@ -1,6 +1,6 @@
 // Reads a line into a record.
 // The first word names the record, and what stands says whether it may come now.
-// A new record is a row here, a row in `record_named`, and a reader.
+// A new record is a row here, a row in `record_named` of specs/Reading, and a reader.
 ghost use Rattle.std.specs.Prelude.{◌≡◌};
 ghost use Rattle.records.specs.Reading.{record_named, record_of};
 
@@ -23,7 +23,8 @@ pub fn read_record(line: &[u8], standing: Standing) -> Result<Option<Record>, Co
     record_named(&mut words, word, standing).map(Some)
 }
 
-// The record that a word names, with the words that follow it.
+// The record that a word names, with the words that follow it. What stands goes beside the words, as how a word is read does
+// not depend on it.
 fn record_named(words: &mut Words<'_>, word: Span, standing: Standing) -> Result<Record, Complaint>
     ensures { result ≡ record_named standing words.old word }
 {

@@ -1,4 +1,4 @@
-// What a line can say, what can be wrong with it, and what stands when it comes.
+// What a line can say, and what stands when it comes.
 // These are plain values: they hold numbers and places, and no text.
 ghost use Rattle.std.specs.Prelude.{◌≡◌};
 

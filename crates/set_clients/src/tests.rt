@@ -17,7 +17,7 @@ fn node(n: u32) -> FeatureIx {
     FeatureIx::new(n)
 }
 
-// The number and the detail of the refusal, where a set is refused.
+// The number and the detail of the refusal, where a set is refused: the fixed numbers are what is tested here.
 fn refused(made: Result<IxSet<FeatureGraphSpec>, Unmade>) -> Option<(u32, usize)> {
     match made {
         Err(Unmade::Refused(refusal)) => {
@@ -39,6 +39,7 @@ fn listed(rt: &impl Abort, set: &IxSet<FeatureGraphSpec>) -> (u32, Option<u32>) 
     assert_eq!(rt; ones.len(), set.len());
     let mut count = 0u32;
     let mut last = None;
+    // No `for`, since `len` is asked between two members.
     while let Some(ix) = ones.next() {
         assert!(rt; last.is_none_or(|last| ix.index() > last));
         assert!(rt; set.contains(ix));

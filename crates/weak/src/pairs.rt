@@ -58,10 +58,11 @@ impl WeakDependencies {
         ensures { result ≡ option_map weak_index (place package_edge self.now) }
     {
         let mut link = self.heads[bucket(package_edge)];
+        // By hand: `find` asks for an iterator that is known to end, and std's `successors` is not.
         while let Some(i) = link {
-            let entry = self.entries[i as usize];
+            let entry = self.entries[usize::from(i)];
             if entry.package_edge == package_edge {
-                return Some(WeakIndex(i as u32));
+                return Some(WeakIndex(u32::from(i)));
             }
             link = entry.next;
         }
@@ -77,12 +78,12 @@ impl WeakDependencies {
             return Ok(index);
         }
         let i = self.entries.len() as u16;
-        if i as u32 >= WEAK_LIMIT {
+        if u32::from(i) >= WEAK_LIMIT {
             return Err(Refusal::WeakIndexesFull);
         }
         let next = self.heads[bucket(package_edge)].replace(i);
         self.entries.push(Entry { package_edge, next });
         self.release_nodes.push(release);
-        Ok(WeakIndex(i as u32))
+        Ok(WeakIndex(u32::from(i)))
     }
 }

@@ -1,5 +1,5 @@
 -- The chain of a bucket has the pair that is looked for, or no pair has it.
-use Rattle.std.proofs.Common.{sym, ap, ◌∙◌, subst}
+use Rattle.std.proofs.Common.{◌≡◌, sym, ap, ◌∙◌, subst}
 use Rattle.std.specs.Option.{option_map}
 use Rattle.theory.specs.Pairs.{place}
 use Rattle.weak.specs.Hashed.{entry_at}
@@ -12,8 +12,10 @@ returns-then-entry-package_edge c =
     let w = c.self.inside in
     let p = c.args.package_edge in
     let h = subst (Passed w.entries.items p) c.in-Some.is c.loop-link.invariant in
-    let at = search_finds w.entries.items w.release_nodes.items w.heads c.self.invariant p c.in-Some.i h (ap (λ es. (entry_at es c.in-Some.i).package_edge) (sym c.deref.ensures.0) ∙ c.if-entry-package_edge.true) in
-    sym (ap (option_map weak_index) (ap (place p) (sym c.self.view_is) ∙ at))
+    let is : (entry_at w.entries.items c.in-Some.i).package_edge ≡ p = cc in
+    let at = search_finds w.entries.items w.release_nodes.items w.heads c.self.invariant p c.in-Some.i h is in
+    let found = ap (option_map weak_index) (ap (place p) (sym c.self.view_is) ∙ at) in
+    cc
 
 pub returns : goal.returns
 returns c =

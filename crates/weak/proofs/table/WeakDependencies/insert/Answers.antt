@@ -8,8 +8,8 @@ use Rattle.weak.proofs.Hashing.{length-pairs, hashed_more, pairs_more}
 use Rattle.weak.proofs.Registering.{not_placed, registers_none, registers_last}
 use Rattle.weak.proofs.table.WeakDependencies.insert.Goals as goal
 
-pub returns-then-i-ge-WEAK_LIMIT : goal.returns-then-i-ge-WEAK_LIMIT
-returns-then-i-ge-WEAK_LIMIT c =
+pub returns-then-from-ge-WEAK_LIMIT : goal.returns-then-from-ge-WEAK_LIMIT
+returns-then-from-ge-WEAK_LIMIT c =
     let w = c.self.inside in
     let n = length-pairs w.entries.items w.release_nodes.items in
     let m = ap length c.self.view_is in
