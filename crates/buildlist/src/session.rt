@@ -89,6 +89,7 @@ impl<'s> Session<'s> {
     fn next_order(&mut self, standing: Standing) -> anyhow::Result<Option<Order>>
         ensures { IfOk result (λ order. MatchOption order (ahead self.new ≤ ahead self.old) (λ _. ahead self.new < ahead self.old)) }
     {
+        // No `for`: tried, and the proof that each line leaves less of the file did not close.
         while let Some(line) = self.lines.next() {
             let number = line.number;
             match read_record(line.text, standing) {

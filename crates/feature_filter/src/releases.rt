@@ -25,7 +25,7 @@ impl<'a> Releases<'a> {
     {
         let mut firsts = [None; 4096];
         let mut nexts = [None; 1024];
-        // Counted by hand, from the last index back: the index is what both tables store, and the place of a write in one.
+        // By a range: the loop's invariant names the last index that is linked, which an iterator's state does not say.
         for index in (0..nodes.len()).rev() {
             let bucket = (nodes[index] % NODE_LIMIT) as usize;
             nexts[index] = firsts[bucket];
