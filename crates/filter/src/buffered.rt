@@ -24,6 +24,7 @@ pub struct Held<E> {
 // Walks alone make these calls, and ask about each edge at most once after `begin`: so a hold table and a hand-out table
 // with an entry for each edge of the graph have room enough. Both are slices that the caller lends to each call, since no
 // call may want for memory.
+// That the rule stays is a clause of each call: a law speaks of one value, and this is about two.
 pub trait BufferedEdgeFilter {
     type Ix: IndexType;
 

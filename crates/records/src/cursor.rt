@@ -24,6 +24,7 @@ impl<'a> Model for Words<'a> {
     ghost view = { λ words. record { text = words.text.now; at = words.at } };
 }
 
+// Each reading says what it answers and, by `after`, what it leaves: two facts of one call.
 impl<'a> Words<'a> {
     // The words of a text from a place on.
     pub(crate) fn new(text: &'a [u8], at: usize) -> Words<'a>

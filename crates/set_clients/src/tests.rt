@@ -18,6 +18,7 @@ fn node(n: u32) -> FeatureIx {
 }
 
 // The number and the detail of the refusal, where a set is refused: the fixed numbers are what is tested here.
+// Alike in the tests of `clients`, for another error.
 fn refused(made: Result<IxSet<FeatureGraphSpec>, Unmade>) -> Option<(u32, usize)> {
     match made {
         Err(Unmade::Refused(refusal)) => {
@@ -50,7 +51,8 @@ fn listed(rt: &impl Abort, set: &IxSet<FeatureGraphSpec>) -> (u32, Option<u32>) 
     (count, last)
 }
 
-// A set of a graph of so many nodes without a member; an index beyond the graph changes nothing.
+// A set of a graph of so many nodes without a member; an index beyond the graph changes nothing. `rt` asserts and `heap` makes
+// sets: `Abort` lends no heap, so both go with the number of nodes, here and below.
 fn none(rt: &impl Abort, heap: Global, nodes: u32) -> Result<(), Fail> {
     let mut set = IxSet::empty(heap, FeatureGraphSpec, nodes)?;
     assert_eq!(rt; set.node_count(), nodes);
