@@ -1,6 +1,6 @@
 -- What the states say of an edge that arrives. Assumes nothing.
 use Rattle.std.proofs.Common.{◌≡◌, ℕ, zero, suc, ◌+◌, ◌<◌, ◌≤◌, Bool, true, false, cond, not, ◌&&◌, eqb, ◌⊎◌, List, [], ◌∷◌, ◌++◌, length, get_or, Some, None, filter, Option, sym, refl, ap, ◌∙◌, subst, inl, inr, true≢false, append-nil, arith, ◌≢◌}
-use mathlib.Core.Bool.{and-true, and-false}
+use mathlib.Core.Bool.{and-true}
 use Rattle.std.specs.List.{slice_get}
 use Rattle.std.proofs.lemmas.Option.{slice_get-get_or, slice_get_past}
 use Rattle.std.proofs.lemmas.Bool.{or_cases, or_left, or_right, and_parts, and_from, eqb-true, eq-eqb, false_from_ne_true}
@@ -130,11 +130,3 @@ module _ (nodes : List ℕ) (ss : List SingleBufferState) (used : ℕ) (hold : L
 
         now : (acc : Link → Bool) → held_in acc ss' used' hold' ≡ held_in acc ss used hold ++ cond (acc o) (meaning e ∷ []) []
         now acc = (λ j. filter (ones acc j) (t.1.lies j)) ∙ filter-append (held_one acc ss) (lying used hold) (meaning e ∷ []) ∙ ap (λ b. held_in acc ss used hold ++ cond b (meaning e ∷ []) []) (one acc)
-
--- the optional half of a weak slash lets its edge out if its index was told of its node, and it is accepted
-pub half_told : (acc : Link → Bool) (nodes : List ℕ) (told : ℕ → Bool) (q : Option Link) (o : Link) (i : ℕ) → was_told told (waiting acc nodes (Some (Weak q o (record { 0 = i })))) ≡ (was_told told (slice_get nodes i) && acc o)
-half_told acc nodes told q o i = go (acc o) (slice_get nodes i)
-  where
-    go : (a : Bool) (w : Option ℕ) → was_told told (cond a w None) ≡ (was_told told w && a)
-    go true w = sym (and-true (was_told told w))
-    go false w = sym (and-false (was_told told w))

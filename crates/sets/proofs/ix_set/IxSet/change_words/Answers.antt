@@ -8,6 +8,7 @@ use Rattle.bits.specs.Bits.{bit, has, how_many}
 use Rattle.bits.proofs.Counts.{count_zero, count_past, count_most}
 use Rattle.bits.proofs.Rows.{Cut, stored_here, stored_there, stored_below, stored_more, word_has}
 use Rattle.sets.specs.Sets.{member}
+use Rattle.sets.proofs.ix_set.IxSet.change_words.Given.{Over}
 use Rattle.sets.proofs.ix_set.IxSet.change_words.Goals as goal
 
 pub loop-i-init : goal.loop-i-init
@@ -22,16 +23,17 @@ loop-i-init g c =
       counted = sym (count_zero (has c.deref_mut-word-items.result.now));
     }
 
+-- the word that is stored
+cut : (g : Over) (c : goal.After-low_bits g) → Cut c.loop-i.word-items c.loop-i.i c.f.result c.low_bits.result c.args.self.now.nodes
+cut g c = record { inside = omega arith; fits = c.low_bits.type_inv; low = c.low_bits.ensures }
+
 pub overflow_add-count : goal.overflow_add-count
 overflow_add-count g c =
     let s = c.args.self.now in
     let ws = c.loop-i.word-items in
     let i = c.loop-i.i in
-    let r = c.f.result in
-    let m = c.low_bits.result in
-    let cut : Cut ws i r m s.nodes = record { inside = omega arith; fits = c.low_bits.type_inv; low = c.low_bits.ensures } in
-    let counted = stored_more cut c.loop-i.count c.loop-i.invariant.counted in
-    let most = count_most (has (set ws i (bit_and r m))) s.nodes ((i + 1) * 64) (stored_below cut c.loop-i.invariant.within) in
+    let counted = stored_more (cut g c) c.loop-i.count c.loop-i.invariant.counted in
+    let most = count_most (has (set ws i (bit_and c.f.result c.low_bits.result))) s.nodes ((i + 1) * 64) (stored_below (cut g c) c.loop-i.invariant.within) in
     let few = s.few in
     omega arith
 
@@ -44,20 +46,19 @@ loop-i-preserved g c =
     let r = c.f.result in
     let m = c.low_bits.result in
     let keeps = c.loop-i.invariant in
-    let cut : Cut ws i r m s.nodes = record { inside = omega arith; fits = c.low_bits.type_inv; low = c.low_bits.ensures } in
     let word : (k : ℕ) → k < 64 → bit w k ≡ member s (i * 64 + k) = λ k l. word_has ws i k l ∙ keeps.rest (i * 64 + k) (omega arith) in
     record {
       made = λ p h n b. elim (cases_eq (n / 64) i) [
         | inl e ↦
             let at : i * 64 + n % 64 ≡ n = omega arith in
-            stored_here cut n e
+            stored_here (cut g c) n e
             ∙ ap (λ b. b && ltb n s.nodes) (h i w r (omega arith) (keeps.fits i (omega arith)) word c.f.ensures (n % 64) (omega arith) ∙ ap p at)
-        | inr d ↦ stored_there cut n d ∙ keeps.made p h n (omega (arith, d))
+        | inr d ↦ stored_there (cut g c) n d ∙ keeps.made p h n (omega (arith, d))
       ];
-      rest = λ n b. stored_there cut n (λ e. omega arith) ∙ keeps.rest n (omega arith);
+      rest = λ n b. stored_there (cut g c) n (λ e. omega arith) ∙ keeps.rest n (omega arith);
       fits = λ k b. subst (λ x. x < 2 ^ 64) (sym (get_or-set_other ws i k (bit_and r m) 0 (λ e. omega arith))) (keeps.fits k (omega arith));
-      within = stored_below cut keeps.within;
-      counted = stored_more cut c.loop-i.count keeps.counted;
+      within = stored_below (cut g c) keeps.within;
+      counted = stored_more (cut g c) c.loop-i.count keeps.counted;
     }
 
 -- the words that are put back
