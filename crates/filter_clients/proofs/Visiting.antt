@@ -8,8 +8,8 @@ use Rattle.theory.proofs.Cursors.{step_some}
 use Rattle.theory.proofs.Kept.{at_most}
 use Rattle.filter.specs.Filters.{Untold, Discovers}
 
-pub few_out : {W : Type 0} {node : ℕ → Bool} {bound edges : ℕ} {outs : ℕ → List (Edge W)} → Sound node bound edges outs → (n : ℕ) → length (outs n) ≤ edges
-few_out {W} {node} {bound} {edges} {outs} s n = at_most edges (outs n) (s.once n) (λ e i. s.number n e i)
+pub few_out : {W : Type 0} {node : ℕ → Bool} {bound edges : ℕ} {outs : ℕ → List (Edge W)} → Sound node bound edges outs → (n : ℕ) (list : List (Edge W)) → list ≡ outs n → length list ≤ edges
+few_out {W} {node} {bound} {edges} {outs} s n list is = let all = ap length is in let most = at_most edges (outs n) (s.once n) (λ e i. s.number n e i) in omega arith
 
 -- an edge is next: there is an edge less to come, and a place for it
 pub next_fits : {X : Type 0} (rest after : List X) (x : X) (used all size : ℕ) → Steps rest (Some x) after → used + length rest ≤ all → all ≤ size → used < size

@@ -1,26 +1,11 @@
 -- One index more is dealt with.
-use Rattle.std.proofs.Common.{◌≡◌, ◌+◌, ◌-◌, ◌≤◌, ◌++◌, length, drop, sym, refl, ap, ◌∙◌, subst, arith, length-take, length-drop}
+use Rattle.std.proofs.Common.{◌+◌, ◌-◌, ◌≤◌, ◌++◌, length, drop, sym, refl, ap, ◌∙◌, subst, arith, length-take, length-drop}
 use Rattle.index.specs.declared.direction.DependencyDirection.TheVariants.{Forward}
 use Rattle.filter.specs.Filters.{Discovers}
 use Rattle.buffers.specs.Rules.{feature_rule}
-use Rattle.buffers.specs.Buffers.{told_by, held_in, handed, left, lets_out, state_of, Chained, Okay}
-use Rattle.buffers.proofs.Telling.{telling_start, same_out, Indexed, indexed, handed_behind, told}
-use Rattle.feature_filter.proofs.weak_buffers.WeakBuffers.tell.Given.{Over}
-use Rattle.feature_filter.proofs.weak_buffers.WeakBuffers.tell.Goals.{In-Some}
+use Rattle.buffers.specs.Buffers.{told_by, held_in, handed, left, state_of, Chained, Okay}
+use Rattle.buffers.proofs.Telling.{telling_start, same_out, indexed, handed_behind, told}
 use Rattle.feature_filter.proofs.weak_buffers.WeakBuffers.tell.Goals as goal
-
--- what an index of the node needs, and what it lets out
-turn : (g : Over) (c : In-Some g) → let l = c.loop-index in Indexed (g.V.Verdict.accepts c.args.verdict.now) c.args.releases.now.nodes.now c.args.node c.args.self.now.states c.args.self.now.used c.args.hold.now l.self.states l.hand _ l.out l.invariant.so_far c.in-Some.index _ c.in-Some.ensures.steps (length l.hand)
-turn g c =
-    let s = c.args.self.now in
-    let l = c.loop-index in
-    indexed _ c.args.releases.now.nodes.now c.args.node s.states s.used c.args.hold.now l.self.states l.hand _ l.out l.invariant.so_far c.in-Some.index _ c.in-Some.ensures.steps c.requires.okay (length l.hand) (omega (arith, c.requires.room, l.auto.hand))
-
-freed : (g : Over) (c : In-Some g) → let l = c.loop-index in let i = c.in-Some.index in lets_out (g.V.Verdict.accepts l.verdict) i l.self.states l.self.used l.hold ≡ lets_out (g.V.Verdict.accepts c.args.verdict.now) i l.self.states c.args.self.now.used c.args.hold.now
-freed g c =
-    let l = c.loop-index in
-    let inv = l.invariant in
-    same_out _ _ l.self.states c.args.self.now.used _ c.args.hold.now _ c.in-Some.index inv.same inv.used inv.hold
 
 pub loop-index-init : goal.loop-index-init
 loop-index-init g c =
@@ -41,9 +26,8 @@ release-out-requires g c =
     let l = c.loop-index in
     let inv = l.invariant in
     let i = c.in-Some.index in
-    let now = (goal.at.release-out-requires g c).In-Some in
-    let t = turn g now in
-    let out = ap length (freed g now) in
+    let t = indexed _ _ _ _ c.args.self.now.used c.args.hold.now _ _ _ _ inv.so_far c.in-Some.index _ c.in-Some.ensures.steps c.requires.okay (length l.hand) (omega (arith, c.requires.room, l.auto.hand)) in
+    let out = ap length (same_out _ _ l.self.states _ _ _ _ i inv.same inv.used inv.hold) in
     record {
       known = omega (arith, t.low, c.args.releases.now.few);
       fits = omega (arith, inv.used, l.auto.hold, c.requires.okay.fits);
@@ -56,9 +40,8 @@ loop-index-preserved g c =
     let l = c.loop-index in
     let inv = l.invariant in
     let r = c.release-out.ensures in
-    let now = (goal.at.loop-index-preserved g c).In-Some in
-    let t = turn g now in
-    let out = freed g now in
+    let t = indexed _ _ _ _ c.args.self.now.used c.args.hold.now _ _ _ _ inv.so_far c.in-Some.index _ c.in-Some.ensures.steps c.requires.okay (length l.hand) (omega (arith, c.requires.room, l.auto.hand)) in
+    let out = same_out _ _ l.self.states _ _ _ _ c.in-Some.index inv.same inv.used inv.hold in
     let few = ap length out in
     let room = t.room in
     let fits : c.release-out.result ≤ length c.release-out.new.hand = omega (arith, r.counts, c.release-out.auto.hand, length-take (length l.hand - l.out) (drop l.out l.hand), length-drop l.out l.hand) in

@@ -1,5 +1,5 @@
 -- One node more: its digit is set, the others stay, and the count grows by one.
-use Rattle.std.proofs.Common.{◌≡◌, ◌+◌, ◌*◌, ◌/◌, ◌%◌, ◌^◌, ◌<◌, true, false, ◌&&◌, ◌||◌, eqb, ltb, length, vec_items, sym, refl, ap, ◌∙◌, arith}
+use Rattle.std.proofs.Common.{◌≡◌, ◌+◌, ◌*◌, ◌/◌, ◌%◌, ◌^◌, ◌<◌, true, ◌&&◌, ◌||◌, eqb, ltb, length, vec_items, sym, refl, ap, ◌∙◌, arith}
 use mathlib.Core.Bool.{and-true}
 use Rattle.std.proofs.lemmas.Nat.{one_shl}
 use Rattle.std.proofs.lemmas.List.{get_or_read}
@@ -8,14 +8,10 @@ use Rattle.bits.specs.Bits.{has}
 use Rattle.bits.proofs.Counts.{count_room}
 use Rattle.bits.proofs.Rows.{Put, put_has, put_below, put_count}
 use Rattle.sets.proofs.ix_set.IxSet.insert.Given.{Over}
-use Rattle.sets.proofs.ix_set.IxSet.insert.Goals.{Else-contains, After-index_mut}
+use Rattle.sets.proofs.ix_set.IxSet.insert.Goals.{After-index_mut}
 use Rattle.sets.proofs.ix_set.IxSet.insert.Goals as goal
 
--- the node is no member yet
-free : (g : Over) (c : Else-contains g) → has (vec_items c.args.self.now.words) c.index-n.result ≡ false
-free g c = ap (has (vec_items c.args.self.now.words)) c.index-n.ensures ∙ sym c.contains.ensures ∙ c.if-contains.false
-
--- its digit is put in
+-- the digit of the node is put in
 put : (g : Over) (c : After-index_mut g) → let n = c.index-n.result in Put (vec_items c.args.self.now.words) n c.index_mut.result.now (1 * 2 ^ (n % 64) % 2 ^ 64)
 put g c =
     let s = c.args.self.now in
@@ -28,7 +24,7 @@ pub overflow_add-self : goal.overflow_add-self
 overflow_add-self g c =
     let s = c.args.self.now in
     let few = s.few in
-    omega (arith, s.counted, count_room (has (vec_items s.words)) c.index-n.result s.nodes (omega arith) (free g (goal.at.overflow_add-self g c).Else-contains))
+    omega (arith, s.counted, count_room (has (vec_items s.words)) c.index-n.result s.nodes (omega arith) (cc))
 
 pub invariant_of-self : goal.invariant_of-self
 invariant_of-self g c =
@@ -38,7 +34,7 @@ invariant_of-self g c =
       few = s.few;
       long = s.long;
       within = put_below in_place s.nodes (omega arith) s.within;
-      counted = ap (λ k. k + 1) s.counted ∙ sym (put_count in_place s.nodes (omega arith) (free g (goal.at.invariant_of-self g c).Else-contains));
+      counted = ap (λ k. k + 1) s.counted ∙ sym (put_count in_place s.nodes (omega arith) (cc));
     }
 
 pub returns-clause-set : goal.returns-clause-set
