@@ -40,10 +40,16 @@ bit-bit_xor a b k =
     bit_is (bit_xor a b) k _ (bit_at_xor a b k)
     ∙ digits (λ x y. eqb ((x + y) % 2) 1 ≡ ((eqb x 1 && not (eqb y 1)) || (not (eqb x 1) && eqb y 1))) refl refl refl refl a b k
 
--- the digits that a word lacks
-pub bit_flip : (w k : ℕ) → w < 2 ^ 64 → k < 64 → bit (2 ^ 64 - 1 - w) k ≡ not (bit w k)
-unfolding bit
-bit_flip w k h l = bit_is (2 ^ 64 - 1 - w) k _ (bit_at_not w64 w k h l) ∙ digit (λ x. eqb (1 - x) 1 ≡ not (eqb x 1)) refl refl (bit_at w k) (bit_at-lt w k)
+less_bool : (x y : Bool) → ((x && not (x && y)) || (not x && (x && y))) ≡ (x && not y)
+less_bool true true = refl
+less_bool true false = refl
+less_bool false true = refl
+less_bool false false = refl
+
+-- the digits of a that b lacks
+pub bit_less : (a b k : ℕ) → bit (bit_xor a (bit_and a b)) k ≡ (bit a k && not (bit b k))
+bit_less a b k =
+    bit-bit_xor a (bit_and a b) k ∙ ap (λ t. (bit a k && not t) || (not (bit a k) && t)) (bit-bit_and a b k) ∙ less_bool (bit a k) (bit b k)
 
 -- ---- single words
 

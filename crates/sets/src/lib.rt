@@ -10,4 +10,5 @@ pub mod make;
 pub mod mix;
 pub mod node_set;
 pub mod ones;
+pub mod operation;
 pub mod words;

@@ -2,7 +2,7 @@
 -- their chains as a pair is added. Assumes nothing.
 use Rattle.std.proofs.Common.{rules, ◌≡◌, ℕ, ◌+◌, ◌%◌, ◌<◌, List, [], ◌∷◌, ◌++◌, length, get_or, set, replicate, Some, None, Option, refl, sym, ap, ◌∙◌, subst, inl, inr, arith, get_or-set_other, get_or-set_same, length-set, below_more}
 use Rattle.std.proofs.lemmas.List.{length-replicate, get_or_append_left, get_or_push, length_push, get_or-replicate}
-use Rattle.std.proofs.lemmas.Bool.{cases_eq}
+use Rattle.std.proofs.lemmas.Bool.{cases_eq, cases_order}
 use Rattle.theory.specs.Limits.{weak_limit}
 use Rattle.theory.specs.Pairs.{listed, place}
 use Rattle.theory.proofs.Placing.{length-listed, place_none, place_some, listed_more}
@@ -43,6 +43,19 @@ module _ (entries : List Entry) (releases : List ℕ) (heads : List (Option ℕ)
   pub search_finds : (i : ℕ) → Passed entries p (Some i) → (entry_at entries i).package_edge ≡ p → place p (pairs_in entries releases) ≡ Some i
   search_finds i s q =
       place_some (pair_at entries releases) (length entries) p i s.0 q (λ j less e. h.distinct j i less s.0 (e ∙ sym q))
+
+  -- an empty chain has no pair of the package edge, and neither has one that ends at a pair of another
+  pub head_none : get_or heads (p % 1024) None ≡ None → Passed entries p None
+  head_none q j less e = subst (LastPlace (bucket_at entries) (length entries) (p % 1024)) q (h.head (p % 1024) (omega arith)) j less (ap (λ x. x % 1024) e)
+
+  pub next_none : (i : ℕ) → Passed entries p (Some i) → ((entry_at entries i).package_edge ≡ p → ⊥) → (entry_at entries i).next ≡ None → Passed entries p None
+  next_none i s other q j less e =
+      let before = subst (LastPlace (bucket_at entries) i (bucket_at entries i)) q (h.next i s.0) in
+      elim (cases_order j i) [
+        | inl same ↦ other (ap (λ x. (entry_at entries x).package_edge) (sym same) ∙ e)
+        | inr (inl low) ↦ before j low (ap (λ x. x % 1024) e ∙ sym s.1)
+        | inr (inr high) ↦ s.2 j high less e
+      ]
 
   pub search_ends : Passed entries p None → place p (pairs_in entries releases) ≡ None
   search_ends s = place_none (pair_at entries releases) (length entries) p s

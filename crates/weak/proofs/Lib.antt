@@ -1,3 +1,4 @@
+pub mod Apart
 pub mod Hashing
 pub mod Registering
 pub mod Releasing

@@ -1,7 +1,9 @@
 -- pairs: the list of pairs that a table means; a pair's place is its weak index.
--- register: what becomes of the list, and what is answered, as a pair comes.  Assumes nothing.
-use Rattle.std.specs.Prelude.{ℕ, cond, List, [], ◌∷◌, ◌++◌, length, Some, None, Ok, Err, Option, Result, nat_le}
+-- register: what becomes of the list, and what is answered, as a pair comes.  KnownOnce: no package edge is registered twice.
+-- Assumes nothing.
+use Rattle.std.specs.Prelude.{ℕ, cond, List, [], ◌∷◌, ◌++◌, map, length, Some, None, Ok, Err, Option, Result, nat_le}
 use Rattle.theory.specs.Limits.{weak_limit}
+use Rattle.theory.specs.Edges.{Distinct}
 use Rattle.theory.specs.Pairs.{Pair, place}
 use Rattle.index.specs.declared.records.WeakIndex.{WeakIndex}
 use Rattle.index.specs.declared.refusal.Refusal.{Refusal}
@@ -11,6 +13,10 @@ use Rattle.weak.specs.declared.table.WeakDependencies.{WeakDependencies}
 -- a contract sees a table as the list of its pairs
 abbrev pub pairs : WeakDependencies → List Pair
 pairs w = w
+
+-- no two pairs have one package edge
+abbrev pub KnownOnce : List Pair → Type 0
+KnownOnce ps = Distinct (map (λ (p : Pair). p.package_edge) ps)
 
 abbrev pub weak_index : ℕ → WeakIndex
 weak_index i = record { 0 = i }

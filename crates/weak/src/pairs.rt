@@ -4,7 +4,7 @@ ghost use Rattle.std.specs.Option.{option_map};
 ghost use Rattle.std.specs.List.{slice_get};
 ghost use Rattle.theory.specs.Limits.{weak_limit};
 ghost use Rattle.theory.specs.Pairs.{place};
-ghost use Rattle.weak.specs.Registered.{register, registered, weak_index};
+ghost use Rattle.weak.specs.Registered.{register, registered, weak_index, KnownOnce};
 
 use crate::table::{Entry, WeakDependencies};
 use arrayvec::ArrayVec;
@@ -31,9 +31,20 @@ impl WeakDependencies {
         }
     }
 
-    // How many pairs there are: weak indexes lie below.
+    // No pair again.
+    pub fn clear(&mut self)
+        ensures { self.new ≡ [] }
+    {
+        self.entries.clear();
+        self.release_nodes.clear();
+        self.heads.fill(None);
+    }
+
+    // How many pairs there are: weak indexes lie below. No two have one package edge.
     pub fn len(&self) -> u32
-        ensures { result ≡ length self.now }
+        ensures count { result ≡ length self.now }
+        ensures few { result ≤ weak_limit }
+        ensures known_once { KnownOnce self.now }
     {
         self.entries.len() as u32 // an index a pair
     }
@@ -57,16 +68,12 @@ impl WeakDependencies {
     pub fn find(&self, package_edge: u32) -> Option<WeakIndex>
         ensures { result ≡ option_map weak_index (place package_edge self.now) }
     {
-        let mut link = self.heads[bucket(package_edge)];
+        let mut at = usize::from(self.heads[bucket(package_edge)]?);
         // By hand: `find` asks for an iterator that is known to end, and std's `successors` is not.
-        while let Some(i) = link {
-            let entry = self.entries[usize::from(i)];
-            if entry.package_edge == package_edge {
-                return Some(WeakIndex(u32::from(i)));
-            }
-            link = entry.next;
+        while self.entries[at].package_edge != package_edge {
+            at = usize::from(self.entries[at].next?);
         }
-        None
+        Some(WeakIndex(at as u32)) // below 1,024
     }
 
     // Registers a pair. A package edge that is known keeps its index and its release node.

@@ -1,7 +1,5 @@
 -- The words are put together digit by digit.
 use Rattle.std.proofs.Common.{rules}
-use lib.Bits.{bit_xor}
-use Rattle.bits.proofs.Digits.{bit-bit_xor}
 use Rattle.sets.specs.Combining.{xor}
 use Rattle.sets.specs.Sets.{member}
 use Rattle.sets.proofs.Mixing.{turns}
@@ -11,4 +9,4 @@ pub returns : goal.returns
 returns g c =
     let s = c.args.self.now in
     let t = c.args.other.now in
-    c.change_words.ensures _ (turns bit_xor xor _ (member s) (member t) (λ a b k _ _. bit-bit_xor a b k) (λ i w r a b e. search rules))
+    c.change_words.ensures _ (turns xor _ (member s) (member t) (λ i w r e. search rules))

@@ -1,26 +1,36 @@
 -- The chain of a bucket has the pair that is looked for, or no pair has it.
-use Rattle.std.proofs.Common.{◌≡◌, sym, ap, ◌∙◌, subst}
+use Rattle.std.proofs.Common.{◌≡◌, ℕ, None, Some, get_or, ◌%◌, sym, ap, ◌∙◌, rules, tests}
 use Rattle.std.specs.Option.{option_map}
 use Rattle.theory.specs.Pairs.{place}
 use Rattle.weak.specs.Hashed.{entry_at}
 use Rattle.weak.specs.Registered.{weak_index}
-use Rattle.weak.proofs.Hashing.{Passed, search_finds, search_ends}
+use Rattle.weak.proofs.Hashing.{Passed, head_none, next_none, search_finds, search_ends}
 use Rattle.weak.proofs.table.WeakDependencies.find.Goals as goal
 
-pub returns-then-entry-package_edge : goal.returns-then-entry-package_edge
-returns-then-entry-package_edge c =
+pub returns-in_err-self : goal.returns-in_err-self
+returns-in_err-self c =
     let w = c.self.inside in
     let p = c.args.package_edge in
-    let h = subst (Passed w.entries.items p) c.in-Some.is c.loop-link.invariant in
-    let is : (entry_at w.entries.items c.in-Some.i).package_edge ≡ p = cc in
-    let at = search_finds w.entries.items w.release_nodes.items w.heads c.self.invariant p c.in-Some.i h is in
-    let found = ap (option_map weak_index) (ap (place p) (sym c.self.view_is) ∙ at) in
-    cc
+    let no_head : get_or w.heads (p % 1024) None ≡ None = search (rules, tests) in
+    let none = search_ends w.entries.items w.release_nodes.items w.heads c.self.invariant p (head_none w.entries.items w.release_nodes.items w.heads c.self.invariant p no_head) in
+    search rules ∙ sym (ap (option_map weak_index) (ap (place p) (sym c.self.view_is) ∙ none))
+
+pub returns-in_err-deref : goal.returns-in_err-deref
+returns-in_err-deref c =
+    let w = c.self.inside in
+    let p = c.args.package_edge in
+    let at = c.loop-at.at in
+    let other : (entry_at w.entries.items at).package_edge ≡ p → ⊥ = search (rules, tests) in
+    let no_next : (entry_at w.entries.items at).next ≡ None = search (rules, tests) in
+    let none = search_ends w.entries.items w.release_nodes.items w.heads c.self.invariant p
+    (next_none w.entries.items w.release_nodes.items w.heads c.self.invariant p at c.loop-at.invariant other no_next) in
+    search rules ∙ sym (ap (option_map weak_index) (ap (place p) (sym c.self.view_is) ∙ none))
 
 pub returns : goal.returns
 returns c =
     let w = c.self.inside in
     let p = c.args.package_edge in
-    let h = subst (Passed w.entries.items p) c.in_default.is c.loop-link.invariant in
-    let none = search_ends w.entries.items w.release_nodes.items w.heads c.self.invariant p h in
-    sym (ap (option_map weak_index) (ap (place p) (sym c.self.view_is) ∙ none))
+    let at = c.loop-at.at in
+    let is : (entry_at w.entries.items at).package_edge ≡ p = search (rules, tests) in
+    let found = search_finds w.entries.items w.release_nodes.items w.heads c.self.invariant p at c.loop-at.invariant is in
+    sym (ap (option_map weak_index) (ap (place p) (sym c.self.view_is) ∙ found))

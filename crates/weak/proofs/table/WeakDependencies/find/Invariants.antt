@@ -1,11 +1,10 @@
--- The pairs past the link were passed, and none of them is the one sought; the walk goes to earlier places.
-use Rattle.std.proofs.Common.{suc}
-use Rattle.std.specs.Option.{option_map, unwrap_or}
+-- The pairs past the place were passed, and none of them is the one sought; the walk goes to earlier places.
+use Rattle.std.proofs.Common.{Some}
 use Rattle.weak.proofs.Hashing.{Passed}
 use Rattle.weak.proofs.table.WeakDependencies.find.Given as goal
 
-abbrev pub invariant-loop-link : goal.invariant-loop-link
-invariant-loop-link l = Passed l.self-inside.entries.items l.package_edge l.link
+abbrev pub invariant-loop-at : goal.invariant-loop-at
+invariant-loop-at l = Passed l.self-inside.entries.items l.package_edge (Some l.at)
 
-abbrev pub decreases-loop-link : goal.decreases-loop-link
-decreases-loop-link l = unwrap_or (option_map suc l.link) 0
+abbrev pub decreases-loop-at : goal.decreases-loop-at
+decreases-loop-at l = l.at
