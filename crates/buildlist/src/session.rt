@@ -66,13 +66,23 @@ impl<'s> Session<'s> {
         if let Err(refusal) = draft.set_up(begun.nodes) {
             self.answers.refusal(refusal, begun.line)?;
         }
-        while let Some(order) = self.next_order(Standing::Draft(begun.kind))? {
-            if let Record::SetUp = order.record {
-                return self.queries(&draft.finish());
-            }
-            self.answers.perform(&mut draft, order)?;
+        if !self.lay(&mut draft, begun.kind)? {
+            return Ok(());
         }
-        Ok(())
+        self.queries(&draft.finish())
+    }
+
+    // Lays a draft, and says whether it is set up.
+    fn lay<S: Laid>(&mut self, draft: &mut Draft<'_, S>, kind: Kind) -> anyhow::Result<bool>
+        ensures { IfOk result (λ _. ahead self.new ≤ ahead self.old) }
+    {
+        while let Some(order) = self.next_order(Standing::Draft(kind))? {
+            if let Record::SetUp = order.record {
+                return Ok(true);
+            }
+            self.answers.perform(draft, order)?;
+        }
+        Ok(false)
     }
 
     fn queries<S: GraphSpec>(&mut self, graph: &FinishedGraph<'_, S>) -> anyhow::Result<()>

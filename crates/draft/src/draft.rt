@@ -2,6 +2,9 @@
 ghost use Rattle.std.specs.Prelude.{◌≡◌, ℕ, ◌<◌, ◌≤◌, [], length, MatchResult};
 ghost use Rattle.index.specs.declared.refusal.Layer.TheVariants.{Graph};
 ghost use Rattle.index.specs.declared.refusal.Refusal.TheVariants.{NoSuchNode};
+ghost use Rattle.theory.specs.Limits.{weak_limit};
+ghost use Rattle.weak.specs.Registered.{KnownOnce};
+ghost use Rattle.tables.specs.Table.{Kept};
 ghost use Rattle.draft.specs.Drafting.{SetsUp, TakesPair, TakesEdge, unregistered};
 
 use crate::raw::{clear, lay};
@@ -49,6 +52,16 @@ impl<'a, S: GraphSpec> Draft<'a, S> {
         }
     }
 
+    // What every draft keeps to: it lies within the limits and its table, its chains are whole, and no package edge is
+    // registered twice. The call changes nothing: its promise is for the proof that makes it.
+    pub fn kept(&self)
+        ensures table { Kept self.now.words self.now.nodes self.now.edges }
+        ensures few { length self.now.pairs ≤ weak_limit }
+        ensures known_once { KnownOnce self.now.pairs }
+    {
+        let _ = self.weak.len();
+    }
+
     // So many nodes, and nothing else.
     pub fn set_up(&mut self, nodes: u32) -> Result<(), Refusal>
         ensures { SetsUp self.old nodes result self.new }
@@ -62,7 +75,7 @@ impl<'a, S: GraphSpec> Draft<'a, S> {
         clear(self.words, nodes);
         self.nodes = nodes;
         self.edges = 0;
-        self.weak = WeakDependencies::new();
+        self.weak.clear();
         Ok(())
     }
 

@@ -1,8 +1,10 @@
 // The finished graph: what a draft becomes. It takes no more edges, and is walked both ways.
-ghost use Rattle.std.specs.Prelude.{◌≡◌, ℕ, length, filter, nat_lt};
+ghost use Rattle.std.specs.Prelude.{◌≡◌, ◌≤◌, ℕ, length, filter, nat_lt};
 ghost use Rattle.std.specs.Option.{option_map};
 ghost use Rattle.std.specs.List.{slice_get};
 ghost use Rattle.theory.specs.Edges.{leaves, enters};
+ghost use Rattle.theory.specs.Limits.{weak_limit};
+ghost use Rattle.weak.specs.Registered.{KnownOnce};
 ghost use Rattle.draft.specs.State.{edges_of};
 ghost use Rattle.draft.specs.Walked.{rest_of};
 ghost use Rattle.tables.specs.Table.{Kept, touching};
@@ -51,9 +53,11 @@ impl<'a, S: GraphSpec> FinishedGraph<'a, S> {
         &self.draft.weak
     }
 
-    // How many weak indexes are registered.
+    // How many weak indexes are registered: no package edge has two.
     pub fn weak_count(&self) -> u32
-        ensures { result ≡ length self.now.draft.pairs }
+        ensures count { result ≡ length self.now.draft.pairs }
+        ensures few { result ≤ weak_limit }
+        ensures known_once { KnownOnce self.now.draft.pairs }
     {
         self.weak().len()
     }

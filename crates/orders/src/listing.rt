@@ -26,7 +26,8 @@ impl Page {
         self.list("into", node, graph, start)
     }
 
-    // What a cursor has still to give, under a name.
+    // What a cursor has still to give, under a name. Inlined, so that a graph whose pairs nobody asks for needs no tables for them.
+    #[inline(always)]
     fn list<G: Graph>(
         &mut self,
         name: &str,
