@@ -68,10 +68,11 @@ impl WeakDependencies {
     pub fn find(&self, package_edge: u32) -> Option<WeakIndex>
         ensures { result ≡ option_map weak_index (place package_edge self.now) }
     {
+        let entries = self.entries.as_slice();
         let mut at = usize::from(self.heads[bucket(package_edge)]?);
         // By hand: `find` asks for an iterator that is known to end, and std's `successors` is not.
-        while self.entries[at].package_edge != package_edge {
-            at = usize::from(self.entries[at].next?);
+        while entries[at].package_edge != package_edge {
+            at = usize::from(entries[at].next?);
         }
         Some(WeakIndex(at as u32)) // below 1,024
     }

@@ -1,5 +1,5 @@
 -- The chain of a bucket has the pair that is looked for, or no pair has it.
-use Rattle.std.proofs.Common.{◌≡◌, ℕ, None, Some, get_or, ◌%◌, sym, ap, ◌∙◌, rules, tests}
+use Rattle.std.proofs.Common.{◌≡◌, ℕ, None, Some, get_or, ◌%◌, sym, ap, ◌∙◌, subst, rules, tests}
 use Rattle.std.specs.Option.{option_map}
 use Rattle.theory.specs.Pairs.{place}
 use Rattle.weak.specs.Hashed.{entry_at}
@@ -15,15 +15,15 @@ returns-in_err-self c =
     let none = search_ends w.entries.items w.release_nodes.items w.heads c.self.invariant p (head_none w.entries.items w.release_nodes.items w.heads c.self.invariant p no_head) in
     search rules ∙ sym (ap (option_map weak_index) (ap (place p) (sym c.self.view_is) ∙ none))
 
-pub returns-in_err-deref : goal.returns-in_err-deref
-returns-in_err-deref c =
+pub returns-in_err-entries : goal.returns-in_err-entries
+returns-in_err-entries c =
     let w = c.self.inside in
     let p = c.args.package_edge in
     let at = c.loop-at.at in
     let other : (entry_at w.entries.items at).package_edge ≡ p → ⊥ = search (rules, tests) in
     let no_next : (entry_at w.entries.items at).next ≡ None = search (rules, tests) in
     let none = search_ends w.entries.items w.release_nodes.items w.heads c.self.invariant p
-    (next_none w.entries.items w.release_nodes.items w.heads c.self.invariant p at c.loop-at.invariant other no_next) in
+    (next_none w.entries.items w.release_nodes.items w.heads c.self.invariant p at (subst (λ es. Passed es p (Some at)) c.as_slice-entries.ensures.value c.loop-at.invariant) other no_next) in
     search rules ∙ sym (ap (option_map weak_index) (ap (place p) (sym c.self.view_is) ∙ none))
 
 pub returns : goal.returns
@@ -32,5 +32,5 @@ returns c =
     let p = c.args.package_edge in
     let at = c.loop-at.at in
     let is : (entry_at w.entries.items at).package_edge ≡ p = search (rules, tests) in
-    let found = search_finds w.entries.items w.release_nodes.items w.heads c.self.invariant p at c.loop-at.invariant is in
+    let found = search_finds w.entries.items w.release_nodes.items w.heads c.self.invariant p at (subst (λ es. Passed es p (Some at)) c.as_slice-entries.ensures.value c.loop-at.invariant) is in
     sym (ap (option_map weak_index) (ap (place p) (sym c.self.view_is) ∙ found))

@@ -4,7 +4,7 @@ use Rattle.weak.proofs.Hashing.{Passed}
 use Rattle.weak.proofs.table.WeakDependencies.find.Given as goal
 
 abbrev pub invariant-loop-at : goal.invariant-loop-at
-invariant-loop-at l = Passed l.self-inside.entries.items l.package_edge (Some l.at)
+invariant-loop-at l = Passed l.entries l.package_edge (Some l.at)
 
 abbrev pub decreases-loop-at : goal.decreases-loop-at
 decreases-loop-at l = l.at
