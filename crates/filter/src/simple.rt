@@ -1,7 +1,8 @@
 // A filter that holds nothing: it asks a test about each edge. Two tests: a verdict on package edges, and one that every edge
-// passes.
+// passes, which is a filter too.
 ghost use Rattle.std.specs.Prelude.{◌≡◌, Bool, true, false, [], None as Nothing};
 ghost use Rattle.theory.specs.Edges.{Edge};
+ghost use Rattle.theory.specs.Rules.{every};
 ghost use Rattle.theory.proofs.Asking.{in_turn_fair};
 ghost use Rattle.graph.specs.Meaning.{meant};
 ghost use Rattle.filter.specs.Filters.{by_link, by_test};
@@ -52,7 +53,41 @@ impl<I: IndexType, W: Copy> EdgeTest for EveryEdge<I, W> {
     ghost passes = { λ _ _. true };
 
     fn pass(&mut self, edge: &EdgeRef<I, W>) -> bool {
+        true // whatever the edge
+    }
+}
+
+// It is a filter by itself too, so that it goes where a filter is wanted without one around it. None waits.
+impl<I: IndexType, W: Copy> BufferedEdgeFilter for EveryEdge<I, W> {
+    type Ix = I;
+
+    type Weight = W;
+
+    ghost rule = { λ _. every };
+
+    ghost told = { λ _ _. false };
+
+    ghost held = { λ _ _. [] };
+
+    ghost used = { λ _. 0 };
+
+    ghost fit = { λ _ _. Unit {0} };
+
+    ghost fair = { λ _. in_turn_fair (λ _. true) (λ _. Nothing) };
+
+    fn begin(&mut self) {}
+
+    fn filter(&mut self, edge: &EdgeRef<I, W>, hold: &mut [Held<EdgeRef<I, W>>]) -> bool {
         true // of any edge
+    }
+
+    fn discover(
+        &mut self,
+        node: I,
+        hold: &mut [Held<EdgeRef<I, W>>],
+        hand: &mut [EdgeRef<I, W>],
+    ) -> usize {
+        0 // and nothing waits
     }
 }
 

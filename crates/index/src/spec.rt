@@ -51,14 +51,13 @@ impl<K: Copy> IndexType for NodeIx<K> {
     }
 }
 
-// What a node of a graph of the kind K stands for. Nodes carry no data here: the index says which one.
+// What a node of a package graph stands for. Nodes carry no data here: the index says which one.
 #[derive(Clone, Copy, PartialEq, Eq, Debug)]
-pub struct Node<K>(pub NodeIx<K>);
+pub struct PackageId(pub PackageIx);
 
-pub type PackageId = Node<PackageGraphSpec>;
-
-// A feature of a package, or a package's base.
-pub type FeatureNode = Node<FeatureGraphSpec>;
+// What a node of a feature graph stands for: a feature of a package, or a package's base.
+#[derive(Clone, Copy, PartialEq, Eq, Debug)]
+pub struct FeatureNode(pub FeatureIx);
 
 #[derive(Clone, Copy, PartialEq, Eq, Debug)]
 pub struct PackageGraphSpec;
