@@ -1,5 +1,5 @@
 -- Items that are listed by a function that gives none twice are distinct. Assumes nothing.
-use Rattle.std.proofs.Common.{◌≡◌, ℕ, zero, suc, ◌<◌, List, [], ◌∷◌, ◌++◌, map, refl, subst, sym, ⊎_elim, inl, inr, arith}
+use Rattle.std.proofs.Common.{◌≡◌, ℕ, zero, suc, ◌<◌, List, [], ◌∷◌, ◌++◌, map, subst, sym, ⊎_elim, inl, inr, arith}
 use Rattle.std.proofs.lemmas.List.{map_push}
 use Rattle.theory.specs.Edges.{In, Distinct}
 use Rattle.theory.specs.Pairs.{listed}

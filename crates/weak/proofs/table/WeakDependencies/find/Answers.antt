@@ -1,5 +1,5 @@
 -- The chain of a bucket has the pair that is looked for, or no pair has it.
-use Rattle.std.proofs.Common.{◌≡◌, ℕ, None, Some, get_or, ◌%◌, sym, ap, ◌∙◌, subst, rules, tests}
+use Rattle.std.proofs.Common.{◌≡◌, None, Some, get_or, ◌%◌, sym, ap, ◌∙◌, subst, rules, tests}
 use Rattle.std.specs.Option.{option_map}
 use Rattle.theory.specs.Pairs.{place}
 use Rattle.weak.specs.Hashed.{entry_at}
