@@ -72,7 +72,7 @@ impl<'s> Session<'s> {
         self.queries(&draft.finish())
     }
 
-    // Lays a draft, and says whether it is set up.
+    // Lays a draft up to its `setup` record, and says whether there was one.
     fn lay<S: Laid>(&mut self, draft: &mut Draft<'_, S>, kind: Kind) -> anyhow::Result<bool>
         ensures { IfOk result (λ _. ahead self.new ≤ ahead self.old) }
     {

@@ -26,7 +26,8 @@ impl Page {
         self.list("into", node, graph, start)
     }
 
-    // What a cursor has still to give, under a name. Inlined, so that a graph whose pairs nobody asks for needs no tables for them.
+    // What a cursor has still to give, under a name. Inlined for speed: a call would be lent the whole graph, tables of pairs
+    // and all, and a program that never looks at those would then have to fill and copy them for each graph.
     #[inline(always)]
     fn list<G: Graph>(
         &mut self,
